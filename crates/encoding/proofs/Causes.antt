@@ -1,0 +1,98 @@
+-- The causes of verdict 11 as one test: each value in its field's range in the class, and an extension where it has one.
+-- Assumes nothing.
+use mathlib.Core.Path.{_≡_, refl, sym, ap, ap₂, _∙_, subst}
+use mathlib.Core.Bool.{Bool, true, false, not, cond, _&&_, _||_}
+use mathlib.Core.List.{List, [], _∷_}
+use Prim.Native.Nat.{ℕ, zero, suc, _+_, _^_, _≤_, _<_}
+use native.Mathlib.Omega.{arith}
+use lib.Arith.{lt-one}
+use lib.Dec.{T, eqb, ltb, leb, ltb→lt, lt→ltb, leb→le, le→leb, eqb→eq}
+use lib.Ieee.Fits.{and-i, and-l, and-r}
+use lib.ListN.{length}
+use borrow.Author.Tests.{lt-ltb, le-ltb, ne-eqb, lt-leb}
+use Rattle.encoding.specs.Classes.{Class, classes, classAt, any, size, has, width}
+use Rattle.encoding.specs.Encoding.{Value, numbersIn, valuesIn, placed, rowFor, classFor, notListed, outOfRange, lacked, unnamed, misextended, refused, encodeOf}
+use Rattle.encoding.specs.declared.Store.{Store}
+use Rattle.encoding.specs.declared.Encoded.{Encoded}
+use Rattle.encoding.specs.declared.Encoded.the-variants.{Word, Fields}
+use Rattle.encoding.proofs.Tests.{every, cond-true, cond-false, holds, fails}
+
+-- each value is one that its field has in the class
+abbrev pub ranged : Class → List Value → Bool
+ranged c vs = every (λ v. ltb (v .number) (2 ^ width c (v .field))) vs
+
+unfoldable pub fits : Class → Store → Bool
+fits c s = ranged c (numbersIn s) && not (unnamed c s) && not (misextended c s)
+
+-- a value outside its field's range, or other than 0 where there is no field
+out-or-lacked : (h : Bool) (n v : ℕ) → (h && not (ltb v (2 ^ n))) || (not h && not (eqb v 0)) ≡ not (ltb v (2 ^ cond h n 0))
+out-or-lacked true n v = go (ltb v (2 ^ n))
+  where
+    go : (b : Bool) → not b || false ≡ not b
+    go true = refl
+    go false = refl
+out-or-lacked false n zero = refl
+out-or-lacked false n (suc v) = ap not (ne-eqb (suc v) 0 (λ e. omega arith) ∙ sym (le-ltb (suc v) 1 (omega arith)))
+
+or-swap : (a b x y r : Bool) → a || b ≡ not r → (s : Bool) → x || y ≡ not s → (a || x) || (b || y) ≡ not (r && s)
+or-swap true b x y true e s f = absurd (fails e tt)
+or-swap true b x y false e s f = refl
+or-swap false true x y true e s f = absurd (fails e tt)
+or-swap false true true y false e s f = refl
+or-swap false true false y false e s f = refl
+or-swap false false x y true e s f = f
+or-swap false false x y false e s f = absurd (fails (sym e) tt)
+
+abbrev out : Class → Value → Bool
+out c v = has c (v .field) && not (ltb (v .number) (2 ^ size (v .field)))
+
+abbrev lack : Class → Value → Bool
+lack c v = not (has c (v .field)) && not (eqb (v .number) 0)
+
+ranges : (c : Class) (vs : List Value) → any (out c) vs || any (lack c) vs ≡ not (ranged c vs)
+unfolding any every
+ranges c [] = refl
+ranges c (v ∷ vs) =
+    or-swap (out c v) (lack c v) (any (out c) vs) (any (lack c) vs) (ltb (v .number) (2 ^ width c (v .field)))
+    (out-or-lacked (has c (v .field)) (size (v .field)) (v .number)) (ranged c vs) (ranges c vs)
+
+causes : (n o l u m r : Bool) → n ≡ false → o || l ≡ not r → n || o || l || u || m ≡ not (r && not u && not m)
+causes true o l u m r e f = absurd (fails e tt)
+causes false o l u m true e f = ap (λ (b : Bool). b || u || m) f ∙ go u m
+  where
+    go : (u m : Bool) → u || m ≡ not (not u && not m)
+    go true m = refl
+    go false true = refl
+    go false false = refl
+causes false o l u m false e f = ap (λ (b : Bool). b || u || m) f
+
+module _ (s : Store) (k : ℕ) (e : k ≡ rowFor s) where
+  pub encode-out : length classes ≤ k → Fields ≡ encodeOf s
+  unfolding encodeOf refused
+  encode-out h =
+      let l : length classes ≤ rowFor s = omega arith in
+      sym (cond-true (refused s) Fields _ (first (notListed s) _ _ _ _ (le→leb (length classes) (rowFor s) l)))
+    where
+      first : (a b c d f : Bool) → T a → T (a || b || c || d || f)
+      first true b c d f t = tt
+      first false b c d f t = absurd t
+
+  module _ (h : k < length classes) where
+    pub refused-is : refused s ≡ not (fits (classAt k) s)
+    unfolding refused outOfRange lacked fits
+    refused-is =
+        causes (notListed s) (outOfRange (classFor s) s) (lacked (classFor s) s) (unnamed (classFor s) s) (misextended (classFor s) s) (ranged (classFor s) (numbersIn s))
+        (lt-leb (length classes) (rowFor s) (omega arith)) (ranges (classFor s) (numbersIn s))
+        ∙ ap (λ (j : ℕ). not (fits (classAt j) s)) (sym e)
+
+    pub encode-yes : (b : Bool) (w : ℕ) → b ≡ fits (classAt k) s → b ≡ true → w ≡ classAt k .base + placed (valuesIn (classAt k) s)
+        → Word w ≡ encodeOf s
+    unfolding encodeOf
+    encode-yes b w f t q =
+        ap Word (q ∙ ap (λ (j : ℕ). classAt j .base + placed (valuesIn (classAt j) s)) e)
+        ∙ sym (ap (λ (x : Bool). cond x Fields (Word (classFor s .base + placed (valuesIn (classFor s) s)))) (refused-is ∙ ap not (sym f ∙ t)))
+
+    pub encode-no : (b : Bool) → b ≡ fits (classAt k) s → b ≡ false → Fields ≡ encodeOf s
+    unfolding encodeOf
+    encode-no b f t =
+        sym (ap (λ (x : Bool). cond x Fields (Word (classFor s .base + placed (valuesIn (classFor s) s)))) (refused-is ∙ ap not (sym f ∙ t)))

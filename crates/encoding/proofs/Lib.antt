@@ -1,0 +1,9 @@
+pub mod Tests
+pub mod Search
+pub mod Bits
+pub mod Places
+pub mod Rows
+pub mod Signed
+pub mod Reading
+pub mod Causes
+pub mod Fitting

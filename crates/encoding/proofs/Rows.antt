@@ -1,0 +1,323 @@
+-- The table of classes: facts that antt computes over all rows, and what follows at each. Assumes nothing.
+use mathlib.Core.Path.{_≡_, refl, sym, ap, _∙_, subst}
+use mathlib.Core.Bool.{Bool, true, false, not, cond, _&&_, _||_}
+use mathlib.Core.List.{List, [], _∷_, map}
+use Prim.Native.Nat.{ℕ, zero, suc, _+_, _^_, _≤_, _<_}
+use native.Mathlib.Nat.{not-suc-le-zero, le-of-suc-le-suc}
+use native.Mathlib.Omega.{arith}
+use lib.Bits.{bitAnd}
+use lib.Dec.{T, eqb, leb, ltb, eqb→eq, eqb-refl, ltb→lt, leb→le, T-not}
+use lib.Ieee.Fits.{and-i, and-l, and-r}
+use lib.ListN.{length, getD}
+use borrow.Author.Tests.{eq-eqb}
+use Rattle.encoding.specs.Classes as C
+use Rattle.encoding.specs.Classes.{Field, Zm, Rm, imm4, xs, Pg, Pc, Rn, Zn, Zt, low, Feature, SVE, SME2, SVE2p1, flag, Class, class, noClass, classes, classAt, position, any, everyBelow, bit, inside, belongs, maskBelow, maskOf, has, width}
+use Rattle.encoding.specs.Decoding.{ztOf, indexOf}
+use Rattle.encoding.specs.Encoding.{rowOf}
+use Rattle.encoding.proofs.Tests.{every, every-at, below-at, below-all, holds}
+use Rattle.encoding.proofs.Search.{position-none, position-only, position-holds}
+use Rattle.encoding.proofs.Places.{Place, row-right, Row, row, mask-member, member-mask}
+
+-- ---- each row is sound
+
+-- the places of a class's fields, in the order of `valuesIn`
+abbrev pub at : Class → Field → Place
+at c f = record { low = low f; width = width c f }
+
+abbrev pub placesAs : Feature → Class → List Place
+placesAs SVE c = at c Zm ∷ at c xs ∷ at c Pg ∷ at c Rn ∷ at c Zt ∷ []
+placesAs SME2 c = at c Rm ∷ at c imm4 ∷ at c Pc ∷ at c Rn ∷ at c C.T ∷ at c (ztOf c) ∷ []
+placesAs SVE2p1 c = at c Rm ∷ at c Pg ∷ at c Zn ∷ at c Zt ∷ []
+
+sound : Class → Bool
+sound c = row-right (c .fields) (placesAs (c .feature) c) (maskOf c) (c .base)
+
+all-sound : T (every sound classes)
+unfolding every sound classes any inside has everyBelow maskBelow maskOf
+all-sound = tt
+
+module _ (k : ℕ) (h : k < length classes) where
+  pub row-at : Row (classAt k .fields) (placesAs (classAt k .feature) (classAt k)) (maskOf (classAt k)) (classAt k .base)
+  unfolding sound classAt
+  row-at =
+      row (classAt k .fields) (placesAs (classAt k .feature) (classAt k)) (maskOf (classAt k)) (classAt k .base)
+      (every-at sound classes noClass all-sound k h)
+
+  -- the mask test is membership
+  pub masked : (w : ℕ) → bitAnd w (maskOf (classAt k)) ≡ classAt k .base → T (belongs (classAt k) w)
+  unfolding belongs
+  masked w e =
+      mask-member (classAt k .fields) (placesAs (classAt k .feature) (classAt k)) (maskOf (classAt k)) (classAt k .base) row-at w e
+
+  pub unmasked : (w : ℕ) → w < 2 ^ 32 → T (belongs (classAt k) w) → bitAnd w (maskOf (classAt k)) ≡ classAt k .base
+  unfolding belongs
+  unmasked w l t =
+      member-mask (classAt k .fields) (placesAs (classAt k .feature) (classAt k)) (maskOf (classAt k)) (classAt k .base) row-at w l t
+
+-- ---- classes are numbered from 1
+
+numbered : ℕ → Bool
+numbered k = eqb (classAt k .number) (suc k)
+
+all-numbered : T (everyBelow (length classes) numbered)
+unfolding everyBelow numbered classAt classes
+all-numbered = tt
+
+pub number-at : (k : ℕ) → k < length classes → classAt k .number ≡ suc k
+unfolding numbered
+number-at k h = eqb→eq (classAt k .number) (suc k) (below-at (length classes) numbered all-numbered k h)
+
+-- ---- the search for a store's class
+
+pub flag-inj : (x y : Feature) → flag x ≡ flag y → x ≡ y
+flag-inj SVE SVE e = refl
+flag-inj SVE SME2 e = absurd (omega arith)
+flag-inj SVE SVE2p1 e = absurd (omega arith)
+flag-inj SME2 SVE e = absurd (omega arith)
+flag-inj SME2 SME2 e = refl
+flag-inj SME2 SVE2p1 e = absurd (omega arith)
+flag-inj SVE2p1 SVE e = absurd (omega arith)
+flag-inj SVE2p1 SME2 e = absurd (omega arith)
+flag-inj SVE2p1 SVE2p1 e = refl
+
+abbrev named : ℕ → ℕ → Class → Bool
+named n x c = eqb (c .number) n && eqb (flag (c .feature)) x
+
+named-is : (n x k : ℕ) → k < length classes → T (named n x (classAt k)) → (suc k ≡ n) × (flag (classAt k .feature) ≡ x)
+named-is n x k h t = (
+  sym (number-at k h) ∙ eqb→eq (classAt k .number) n (and-l (eqb (classAt k .number) n) (eqb (flag (classAt k .feature)) x) t),
+  eqb→eq (flag (classAt k .feature)) x (and-r (eqb (classAt k .number) n) (eqb (flag (classAt k .feature)) x) t),
+)
+
+pub row-found : (n x k : ℕ) → k < length classes → suc k ≡ n → flag (classAt k .feature) ≡ x → rowOf n x ≡ k
+unfolding rowOf classAt
+row-found n x k h e f =
+    position-only (named n x) noClass classes k h
+    (and-i (eqb (classAt k .number) n) (eqb (flag (classAt k .feature)) x)
+    (holds (eq-eqb (classAt k .number) n (number-at k h ∙ e))) (holds (eq-eqb (flag (classAt k .feature)) x f)))
+    (λ j l t. let q = named-is n x j l t in omega (arith, q .0))
+
+pub row-none : (n x : ℕ) → ((k : ℕ) → k < length classes → suc k ≡ n → flag (classAt k .feature) ≡ x → ⊥) → rowOf n x ≡ length classes
+unfolding rowOf classAt
+row-none n x f = position-none (named n x) noClass classes (λ k h t. let q = named-is n x k h t in f k h (q .0) (q .1))
+
+-- the class found has the number, and the feature
+pub row-holds : (n : ℕ) (x : Feature) → rowOf n (flag x) < length classes
+    → (suc (rowOf n (flag x)) ≡ n) × (classAt (rowOf n (flag x)) .feature ≡ x)
+unfolding rowOf classAt
+row-holds n x h =
+    let q = named-is n (flag x) (rowOf n (flag x)) h (position-holds (named n (flag x)) noClass classes h) in
+    (q .0, flag-inj (classAt (rowOf n (flag x)) .feature) x (q .1))
+
+pub found-feature : (n k : ℕ) (x : Feature) → k ≡ rowOf n (flag x) → k < length classes → classAt k .feature ≡ x
+found-feature n k x e h = ap (λ (j : ℕ). classAt j .feature) e ∙ row-holds n x (subst (λ (j : ℕ). j < length classes) e h) .1
+
+-- ---- the code's tables are columns of the table of classes
+
+unfoldable pub column : {B : Type 0} → (Class → B) → List B
+column f = map f classes
+
+getD-map-in : {A B : Type 0} (f : A → B) (l : List A) (d : A) (e : B) (k : ℕ) → k < length l → getD (map f l) k e ≡ f (getD l k d)
+getD-map-in f [] d e k h = absurd (not-suc-le-zero h)
+getD-map-in f (x ∷ l) d e zero h = refl
+getD-map-in f (x ∷ l) d e (suc k) h = getD-map-in f l d e k (le-of-suc-le-suc h)
+
+pub column-at : {B : Type 0} (f : Class → B) (e : B) (k : ℕ) → k < length classes → getD (column f) k e ≡ f (classAt k)
+unfolding column classAt
+column-at f e k h = getD-map-in f classes noClass e k h
+
+abbrev pub row-of : Class → List ℕ
+row-of c = maskOf c ∷ c .base ∷ []
+
+-- the decoder's test of a row
+abbrev pub Passes : ℕ → ℕ → Type 0
+Passes k w = bitAnd w (getD (getD (column row-of) k []) 0 0) ≡ getD (getD (column row-of) k []) 1 0
+
+pub passes : (k w : ℕ) → k < length classes → Passes k w → T (belongs (classAt k) w)
+passes k w h e = masked k h w (subst (λ (r : List ℕ). bitAnd w (getD r 0 0) ≡ getD r 1 0) (column-at row-of [] k h) e)
+
+pub member : (k w : ℕ) → k < length classes → w < 2 ^ 32 → T (belongs (classAt k) w) → Passes k w
+member k w h l t = subst (λ (r : List ℕ). bitAnd w (getD r 0 0) ≡ getD r 1 0) (sym (column-at row-of [] k h)) (unmasked k h w l t)
+
+abbrev pub layout-row : Class → List ℕ
+layout-row c =
+    flag (c .feature) ∷ c .nreg ∷ 2 ^ width c xs ∷ 2 ^ width c Rm ∷ 2 ^ width c imm4 ∷ 2 ^ width c (ztOf c) ∷ []
+
+-- ---- how large a class's numbers are, and which fields all classes of a feature have
+
+abbrev within : ℕ → ℕ → ℕ → Bool
+within l n x = leb l x && leb x n
+
+abbrev small : Class → Bool
+small c =
+    ltb (flag (c .feature)) 3
+    && (leb (c .nreg) 4
+    && (within 1 2 (2 ^ width c xs)
+    && (within 1 32 (2 ^ width c Rm) && (within 1 16 (2 ^ width c imm4) && (within 1 8 (2 ^ width c (ztOf c)) && leb (c .base) 0xF0000000)))))
+
+formedAs : Feature → Class → Bool
+formedAs SVE c = eqb (width c Zm) 5 && (eqb (width c Pg) 3 && (eqb (width c Rn) 5 && eqb (width c Zt) 5))
+formedAs SME2 c = eqb (width c Pc) 3 && (eqb (width c Rn) 5 && (eqb (width c C.T) 1 && ltb 0 (c .nreg)))
+formedAs SVE2p1 c = eqb (width c Rm) 5 && (eqb (width c Pg) 3 && (eqb (width c Zn) 5 && eqb (width c Zt) 5))
+
+formed : Class → Bool
+formed c = small c && formedAs (c .feature) c
+
+all-formed : T (every formed classes)
+unfolding every formed formedAs classes any has
+all-formed = tt
+
+pub record Small (c : Class) : Type 0 where
+  pub feature : flag (c .feature) < 3
+  pub nreg : c .nreg ≤ 4
+  pub xs : (1 ≤ 2 ^ width c xs) × (2 ^ width c xs ≤ 2)
+  pub rm : (1 ≤ 2 ^ width c Rm) × (2 ^ width c Rm ≤ 32)
+  pub imm4 : (1 ≤ 2 ^ width c imm4) × (2 ^ width c imm4 ≤ 16)
+  pub zt : (1 ≤ 2 ^ width c (ztOf c)) × (2 ^ width c (ztOf c) ≤ 8)
+  pub base : c .base ≤ 0xF0000000
+
+within-is : (l n x : ℕ) → T (within l n x) → (l ≤ x) × (x ≤ n)
+within-is l n x t = (leb→le l x (and-l (leb l x) (leb x n) t), leb→le x n (and-r (leb l x) (leb x n) t))
+
+smallness : (c : Class) → T (small c) → Small c
+smallness c t =
+    let t₁ = and-r (ltb (flag (c .feature)) 3) _ t in
+    let t₂ = and-r (leb (c .nreg) 4) _ t₁ in
+    let t₃ = and-r (within 1 2 (2 ^ width c xs)) _ t₂ in
+    let t₄ = and-r (within 1 32 (2 ^ width c Rm)) _ t₃ in
+    let t₅ = and-r (within 1 16 (2 ^ width c imm4)) _ t₄ in
+    record {
+      feature = ltb→lt (flag (c .feature)) 3 (and-l (ltb (flag (c .feature)) 3) _ t);
+      nreg = leb→le (c .nreg) 4 (and-l (leb (c .nreg) 4) _ t₁);
+      xs = within-is 1 2 (2 ^ width c xs) (and-l (within 1 2 (2 ^ width c xs)) _ t₂);
+      rm = within-is 1 32 (2 ^ width c Rm) (and-l (within 1 32 (2 ^ width c Rm)) _ t₃);
+      imm4 = within-is 1 16 (2 ^ width c imm4) (and-l (within 1 16 (2 ^ width c imm4)) _ t₄);
+      zt = within-is 1 8 (2 ^ width c (ztOf c)) (and-l (within 1 8 (2 ^ width c (ztOf c))) _ t₅);
+      base = leb→le (c .base) 0xF0000000 (and-r (within 1 8 (2 ^ width c (ztOf c))) _ t₅);
+    }
+
+pub record Scattered (c : Class) : Type 0 where
+  pub zm : width c Zm ≡ 5
+  pub pg : width c Pg ≡ 3
+  pub rn : width c Rn ≡ 5
+  pub zt : width c Zt ≡ 5
+
+pub record Striding (c : Class) : Type 0 where
+  pub pc : width c Pc ≡ 3
+  pub rn : width c Rn ≡ 5
+  pub t : width c C.T ≡ 1
+  pub nreg : 0 < c .nreg
+
+pub record Quad (c : Class) : Type 0 where
+  pub rm : width c Rm ≡ 5
+  pub pg : width c Pg ≡ 3
+  pub zn : width c Zn ≡ 5
+  pub zt : width c Zt ≡ 5
+
+four : (a b c d : Bool) → T (a && (b && (c && d))) → T a × T b × T c × T d
+four a b c d t =
+    let t₁ = and-r a (b && (c && d)) t in
+    let t₂ = and-r b (c && d) t₁ in
+    (and-l a (b && (c && d)) t, and-l b (c && d) t₁, and-l c d t₂, and-r c d t₂)
+
+module _ (k : ℕ) (h : k < length classes) where
+  formed-at : T (formed (classAt k))
+  unfolding classAt
+  formed-at = every-at formed classes noClass all-formed k h
+
+  pub small-at : Small (classAt k)
+  unfolding formed
+  small-at = smallness (classAt k) (and-l (small (classAt k)) (formedAs (classAt k .feature) (classAt k)) formed-at)
+
+  formed-as : (x : Feature) → classAt k .feature ≡ x → T (formedAs x (classAt k))
+  unfolding formed
+  formed-as x e =
+      subst (λ (y : Feature). T (formedAs y (classAt k))) e
+      (and-r (small (classAt k)) (formedAs (classAt k .feature) (classAt k)) formed-at)
+
+  pub scattered : classAt k .feature ≡ SVE → Scattered (classAt k)
+  unfolding formedAs
+  scattered e =
+      let c = classAt k in
+      let f = four (eqb (width c Zm) 5) (eqb (width c Pg) 3) (eqb (width c Rn) 5) (eqb (width c Zt) 5) (formed-as SVE e) in
+      record {
+        zm = eqb→eq (width c Zm) 5 (f .0);
+        pg = eqb→eq (width c Pg) 3 (f .1);
+        rn = eqb→eq (width c Rn) 5 (f .2);
+        zt = eqb→eq (width c Zt) 5 (f .3);
+      }
+
+  pub striding : classAt k .feature ≡ SME2 → Striding (classAt k)
+  unfolding formedAs
+  striding e =
+      let c = classAt k in
+      let f = four (eqb (width c Pc) 3) (eqb (width c Rn) 5) (eqb (width c C.T) 1) (ltb 0 (c .nreg)) (formed-as SME2 e) in
+      record {
+        pc = eqb→eq (width c Pc) 3 (f .0);
+        rn = eqb→eq (width c Rn) 5 (f .1);
+        t = eqb→eq (width c C.T) 1 (f .2);
+        nreg = ltb→lt 0 (c .nreg) (f .3);
+      }
+
+  pub quad : classAt k .feature ≡ SVE2p1 → Quad (classAt k)
+  unfolding formedAs
+  quad e =
+      let c = classAt k in
+      let f = four (eqb (width c Rm) 5) (eqb (width c Pg) 3) (eqb (width c Zn) 5) (eqb (width c Zt) 5) (formed-as SVE2p1 e) in
+      record {
+        rm = eqb→eq (width c Rm) 5 (f .0);
+        pg = eqb→eq (width c Pg) 3 (f .1);
+        zn = eqb→eq (width c Zn) 5 (f .2);
+        zt = eqb→eq (width c Zt) 5 (f .3);
+      }
+
+-- ---- no word belongs to two classes
+
+-- the classes agree wherever both fix a bit
+agree : Class → Class → Bool
+agree c d = everyBelow 32 (λ i. inside (c .fields) i || (inside (d .fields) i || eqb (bit (c .base) i) (bit (d .base) i)))
+
+two-bits : (o p : Bool) (x a b : ℕ) → T (o || eqb x a) → T (p || eqb x b) → T (o || (p || eqb a b))
+two-bits true p x a b s t = tt
+two-bits false true x a b s t = tt
+two-bits false false x a b s t = subst (λ (y : ℕ). T (eqb a y)) (sym (eqb→eq x a s) ∙ eqb→eq x b t) (eqb-refl a)
+
+agreed : (c d : Class) (w : ℕ) → T (belongs c w) → T (belongs d w) → T (agree c d)
+unfolding belongs agree
+agreed c d w s t =
+    below-all 32 (λ i. inside (c .fields) i || (inside (d .fields) i || eqb (bit (c .base) i) (bit (d .base) i)))
+    (λ i h.
+    two-bits (inside (c .fields) i) (inside (d .fields) i) (bit w i) (bit (c .base) i) (bit (d .base) i)
+    (below-at 32 (λ i. inside (c .fields) i || eqb (bit w i) (bit (c .base) i)) s i h)
+    (below-at 32 (λ i. inside (d .fields) i || eqb (bit w i) (bit (d .base) i)) t i h))
+
+apart : ℕ → ℕ → Bool
+apart j k = cond (eqb j k) true (not (agree (classAt j) (classAt k)))
+
+all-apart : T (everyBelow (length classes) (λ j. everyBelow (length classes) (apart j)))
+unfolding everyBelow apart agree classAt classes any inside
+all-apart = tt
+
+pub one-class : (w j k : ℕ) → j < length classes → k < length classes → T (belongs (classAt j) w) → T (belongs (classAt k) w) → j ≡ k
+unfolding apart
+one-class w j k hj hk s t =
+    go (eqb j k) refl
+    (below-at (length classes) (apart j) (below-at (length classes) (λ i. everyBelow (length classes) (apart i)) all-apart j hj) k hk)
+  where
+    go : (b : Bool) → eqb j k ≡ b → T (cond b true (not (agree (classAt j) (classAt k)))) → j ≡ k
+    go true e u = eqb→eq j k (holds e)
+    go false e u = absurd (T-not (agree (classAt j) (classAt k)) u (agreed (classAt j) (classAt k) w s t))
+
+-- ---- the search for a word's class
+
+pub index-found : (k w : ℕ) → k < length classes → T (belongs (classAt k) w) → indexOf w ≡ k
+unfolding indexOf classAt
+index-found k w h t = position-only (λ c. belongs c w) noClass classes k h t (λ j l u. one-class w j k l h u t)
+
+pub index-none : (w : ℕ) → ((k : ℕ) → k < length classes → T (belongs (classAt k) w) → ⊥) → indexOf w ≡ length classes
+unfolding indexOf classAt
+index-none w f = position-none (λ c. belongs c w) noClass classes f
+
+pub index-holds : (w : ℕ) → indexOf w < length classes → T (belongs (classAt (indexOf w)) w)
+unfolding indexOf classAt
+index-holds w h = position-holds (λ c. belongs c w) noClass classes h

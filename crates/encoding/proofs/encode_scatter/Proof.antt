@@ -1,0 +1,82 @@
+-- The tests of its fields, and their sum. Assumes nothing.
+use mathlib.Core.Path.{_≡_, _∙_, sym, ap}
+use Rattle.encoding.specs.declared.Store.the-variants.{Scatter}
+use Rattle.encoding.specs.Classes.{classes, classAt, SVE}
+use Rattle.encoding.proofs.Rows.{found-feature}
+use Rattle.encoding.proofs.Causes.{encode-out, encode-yes, encode-no}
+use Rattle.encoding.proofs.Fitting.{scatter-fit, scatter-word}
+use borrow.Author.Needs.{needs}
+use Rattle.encoding.proofs.encode_scatter.Statement.{statement}
+use Rattle.encoding.proofs.encode_scatter.Tie as tie
+
+row-of-requires : tie.Need-row-of-requires
+row-of-requires c κs = search needs
+
+returns : tie.Need-returns
+unfolding classes
+returns c = encode-out (Scatter (c .before .before .args .f)) (c .before .row-of .result) (c .before .row-of .ensures) (c .if1 .taken)
+
+layout-of-requires : tie.Need-layout-of-requires
+layout-of-requires c κs = search needs
+
+scatter-fits-requires : tie.Need-scatter-fits-requires
+scatter-fits-requires c κs = search needs
+
+extends-requires : tie.Need-extends-requires
+extends-requires c κs = search needs
+
+base-of-requires : tie.Need-base-of-requires
+base-of-requires c κs = search needs
+
+xs-of-requires : tie.Need-xs-of-requires
+xs-of-requires c κs = search needs
+
+scatter-sum-requires : tie.Need-scatter-sum-requires
+scatter-sum-requires c κs = search needs
+
+add-t13 : tie.Need-add-t13
+add-t13 c = search needs
+
+returns-2 : tie.Need-returns-2
+unfolding classes
+returns-2 c =
+    let f = c .before .before .before .before .before .before .before .before .before .before .args .f in
+    let r = c .before .before .before .before .before .before .before .before .before .row-of in
+    let h = c .before .before .before .before .before .before .before .before .if1 .left in
+    let l = c .before .before .before .before .before .before .before .layout-of in
+    let a = c .before .before .before .before .before .before .scatter-fits in
+    let b = c .before .before .before .before .extends in
+    encode-yes (Scatter f) (r .result) (r .ensures) h _ _
+    (scatter-fit (r .result) h (found-feature (f .class) (r .result) SVE (r .ensures) h) f (l .result) (l .ensures .0) (a .result) (b .result) (a .ensures) (b .ensures))
+    (c .before .before .before .if2 .taken)
+    (scatter-word (classAt (r .result)) f (c .before .before .base-of .result) (c .before .xs-of .result) (c .scatter-sum .result)
+    (c .before .before .base-of .ensures .0) (c .before .xs-of .ensures .0) (c .scatter-sum .ensures .0))
+
+returns-3 : tie.Need-returns-3
+unfolding classes
+returns-3 c =
+    let f = c .before .before .before .before .before .before .before .args .f in
+    let r = c .before .before .before .before .before .before .row-of in
+    let h = c .before .before .before .before .before .if1 .left in
+    let l = c .before .before .before .before .layout-of in
+    let a = c .before .before .before .scatter-fits in
+    let b = c .before .extends in
+    encode-no (Scatter f) (r .result) (r .ensures) h _
+    (scatter-fit (r .result) h (found-feature (f .class) (r .result) SVE (r .ensures) h) f (l .result) (l .ensures .0) (a .result) (b .result) (a .ensures) (b .ensures))
+    (c .if2 .left)
+
+pub encode-scatter-spec : {M : Type 1} → statement M
+encode-scatter-spec =
+    tie.close
+    (tie.spec
+    row-of-requires
+    returns
+    layout-of-requires
+    scatter-fits-requires
+    extends-requires
+    base-of-requires
+    xs-of-requires
+    scatter-sum-requires
+    add-t13
+    returns-2
+    returns-3)

@@ -1,0 +1,89 @@
+-- The tests of its fields, of its first register and of its multiple, and their sum. Assumes nothing.
+use mathlib.Core.Path.{_≡_, _∙_, sym, ap}
+use Rattle.encoding.specs.declared.Store.the-variants.{Strided}
+use Rattle.encoding.specs.Classes.{classes, classAt, SME2}
+use Rattle.encoding.proofs.Rows.{found-feature}
+use Rattle.encoding.proofs.Causes.{encode-out, encode-yes, encode-no}
+use Rattle.encoding.proofs.Fitting.{strided-fit, strided-word}
+use lib.IntN.{ℤ}
+use native.Mathlib.Omega.{arith}
+use mir.Syntax.{w64}
+use mir.Val.{SFits}
+use mir.Facts.{toZ-ofZ}
+use Rattle.encoding.specs.Encoding.{immOf}
+use borrow.Author.Needs.{needs}
+use Rattle.encoding.proofs.encode_strided.Statement.{statement}
+use Rattle.encoding.proofs.encode_strided.Tie as tie
+
+whole : (a : tie.Start) → SFits w64 (a .args .f .multiple)
+whole a = record { sfits = omega arith }
+
+row-of-requires : tie.Need-row-of-requires
+row-of-requires c κs = search needs
+
+returns : tie.Need-returns
+unfolding classes
+returns c = encode-out (Strided (c .before .before .args .f)) (c .before .row-of .result) (c .before .row-of .ensures) (c .if1 .taken)
+
+layout-of-requires : tie.Need-layout-of-requires
+layout-of-requires c κs = search needs
+
+imm4-of-requires : tie.Need-imm4-of-requires
+imm4-of-requires c κs = search needs
+
+strided-fits-requires : tie.Need-strided-fits-requires
+strided-fits-requires c κs = search needs
+
+base-of-requires : tie.Need-base-of-requires
+base-of-requires c κs = search needs
+
+strided-sum-requires : tie.Need-strided-sum-requires
+strided-sum-requires c κs = search needs
+
+add-t10 : tie.Need-add-t10
+add-t10 c = search needs
+
+returns-2 : tie.Need-returns-2
+unfolding classes
+returns-2 c =
+    let f = c .before .before .before .before .before .before .before .before .before .args .f in
+    let r = c .before .before .before .before .before .before .before .before .row-of in
+    let h = c .before .before .before .before .before .before .before .if1 .left in
+    let l = c .before .before .before .before .before .before .layout-of in
+    let i = c .before .before .before .before .imm4-of in
+    let a = c .before .before .before .strided-fits in
+    let v = i .ensures ∙ ap (immOf (l .result .nreg) (l .result .imm4)) (toZ-ofZ (whole (c .before .before .before .before .before .before .before .before .before))) in
+    encode-yes (Strided f) (r .result) (r .ensures) h _ _
+    (strided-fit (r .result) h (found-feature (f .class) (r .result) SME2 (r .ensures) h) f (l .result) (l .ensures .0) (a .result) (i .result) v (a .ensures))
+    (c .before .before .if2 .taken)
+    (strided-word (classAt (r .result)) f (l .result) (c .before .base-of .result) (i .result) (c .strided-sum .result)
+    (l .ensures .0) (c .before .base-of .ensures .0) v (c .strided-sum .ensures .0))
+
+returns-3 : tie.Need-returns-3
+unfolding classes
+returns-3 c =
+    let f = c .before .before .before .before .before .before .before .args .f in
+    let r = c .before .before .before .before .before .before .row-of in
+    let h = c .before .before .before .before .before .if1 .left in
+    let l = c .before .before .before .before .layout-of in
+    let i = c .before .before .imm4-of in
+    let a = c .before .strided-fits in
+    let v = i .ensures ∙ ap (immOf (l .result .nreg) (l .result .imm4)) (toZ-ofZ (whole (c .before .before .before .before .before .before .before))) in
+    encode-no (Strided f) (r .result) (r .ensures) h _
+    (strided-fit (r .result) h (found-feature (f .class) (r .result) SME2 (r .ensures) h) f (l .result) (l .ensures .0) (a .result) (i .result) v (a .ensures))
+    (c .if2 .left)
+
+pub encode-strided-spec : {M : Type 1} → statement M
+encode-strided-spec =
+    tie.close
+    (tie.spec
+    row-of-requires
+    returns
+    layout-of-requires
+    imm4-of-requires
+    strided-fits-requires
+    base-of-requires
+    strided-sum-requires
+    add-t10
+    returns-2
+    returns-3)

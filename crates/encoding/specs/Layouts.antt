@@ -1,0 +1,25 @@
+-- What the code keeps of a class, beside mask and base word. For the contracts of its own functions. Assumes nothing.
+use Prim.Native.Nat.{ℕ, _^_, _≤_, _<_}
+use Rattle.encoding.specs.Classes.{Rm, imm4, xs, flag, Class, width}
+use Rattle.encoding.specs.Decoding.{ztOf}
+use Rattle.encoding.specs.declared.Layout.{Layout}
+
+abbrev pub layoutOf : Class → Layout
+layoutOf c =
+    record {
+      feature = flag (c .feature);
+      nreg = c .nreg;
+      xs = 2 ^ width c xs;
+      rm = 2 ^ width c Rm;
+      imm4 = 2 ^ width c imm4;
+      zt = 2 ^ width c (ztOf c);
+    }
+
+-- how large its numbers are
+pub record Bounded (l : Layout) : Type 0 where
+  pub feature : l .feature < 3
+  pub nreg : l .nreg ≤ 4
+  pub xs : (0 < l .xs) × (l .xs ≤ 2)
+  pub rm : (0 < l .rm) × (l .rm ≤ 32)
+  pub imm4 : (0 < l .imm4) × (l .imm4 ≤ 16)
+  pub zt : (0 < l .zt) × (l .zt ≤ 8)

@@ -1,0 +1,7 @@
+-- What the customer must believe of words and decoded stores, from document 01 (shared/papers/01-scope.md).
+pub mod Classes
+pub mod Decoding
+pub mod Encoding
+pub mod Layouts
+pub mod Answers
+pub mod Statements

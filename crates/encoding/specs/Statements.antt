@@ -1,0 +1,1 @@
+-- What is promised of decoding and encoding, beside the contracts. Each has its proof in proofs/. Assumes nothing.
