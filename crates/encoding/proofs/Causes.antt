@@ -24,6 +24,26 @@ ranged c vs = every (λ v. ltb (v .number) (2 ^ width c (v .field))) vs
 unfoldable pub fits : Class → Store → Bool
 fits c s = ranged c (numbersIn s) && not (unnamed c s) && not (misextended c s)
 
+-- the three tests of it
+module _ (c : Class) (s : Store) where
+  pub fits-made : T (ranged c (numbersIn s)) → T (not (unnamed c s)) → T (not (misextended c s)) → T (fits c s)
+  unfolding fits
+  fits-made r u m =
+      and-i (ranged c (numbersIn s) && not (unnamed c s)) (not (misextended c s)) (and-i (ranged c (numbersIn s)) (not (unnamed c s)) r u) m
+
+  module _ (t : T (fits c s)) where
+    pub in-range : T (ranged c (numbersIn s))
+    unfolding fits
+    in-range = and-l (ranged c (numbersIn s)) (not (unnamed c s)) (and-l (ranged c (numbersIn s) && not (unnamed c s)) (not (misextended c s)) t)
+
+    pub is-named : T (not (unnamed c s))
+    unfolding fits
+    is-named = and-r (ranged c (numbersIn s)) (not (unnamed c s)) (and-l (ranged c (numbersIn s) && not (unnamed c s)) (not (misextended c s)) t)
+
+    pub is-extended : T (not (misextended c s))
+    unfolding fits
+    is-extended = and-r (ranged c (numbersIn s) && not (unnamed c s)) (not (misextended c s)) t
+
 -- a value outside its field's range, or other than 0 where there is no field
 out-or-lacked : (h : Bool) (n v : ℕ) → (h && not (ltb v (2 ^ n))) || (not h && not (eqb v 0)) ≡ not (ltb v (2 ^ cond h n 0))
 out-or-lacked true n v = go (ltb v (2 ^ n))

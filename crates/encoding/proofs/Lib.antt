@@ -7,3 +7,5 @@ pub mod Signed
 pub mod Reading
 pub mod Causes
 pub mod Fitting
+pub mod Inverse
+pub mod Statements

@@ -1,0 +1,171 @@
+-- The proofs of specs/Statements.antt, each of exactly the type that stands there. Assumes nothing.
+use mathlib.Core.Path.{_≡_, refl, sym, ap, _∙_, subst}
+use mathlib.Core.Bool.{Bool, true, false, not, cond, _||_}
+use mathlib.Core.Logic.{_⊎_, inl, inr}
+use Prim.Native.Nat.{ℕ, suc, _+_, _^_, _<_}
+use native.Mathlib.Omega.{arith}
+use lib.Dec.{T, ltb, ltb→lt, lt→ltb}
+use lib.ListN.{length}
+use borrow.Author.Tests.{leb-false, not-false}
+use Rattle.encoding.specs.Classes.{Feature, SME2, flag, Class, classes, classAt, belongs, maskOf}
+use Rattle.encoding.specs.Decoding.{storeAs, storeOf, indexOf, decodeOf}
+use Rattle.encoding.specs.Encoding.{numberOf, featureOf, rowOf, rowFor, classFor, notListed, outOfRange, lacked, unnamed, misextended, refused, placed, valuesIn, encodeOf}
+use Rattle.encoding.specs.Statements.{DecodesItsClass, UndefinedOutside, OneClass, MaskIsMembership, RefusedForACause, EncodesDecoded, DecodesEncoded}
+use Rattle.encoding.specs.declared.Store.{Store}
+use Rattle.encoding.specs.declared.Decoded.{Decoded}
+use Rattle.encoding.specs.declared.Decoded.the-variants.{Known, Undefined}
+use Rattle.encoding.specs.declared.Encoded.{Encoded}
+use Rattle.encoding.specs.declared.Encoded.the-variants.{Word, Fields}
+use Rattle.encoding.proofs.Tests.{yes, no, holds, fails}
+use Rattle.encoding.proofs.Places.{Row, reads, sumAt, joined, made-small, made-masked, made-reads}
+use Rattle.encoding.proofs.Rows.{placesAs, row-at, masked, unmasked, number-at, row-found, row-holds, found-feature, small-at, striding, one-class, index-found, index-none, index-holds}
+use Rattle.encoding.proofs.Reading.{undefined, defined}
+use Rattle.encoding.proofs.Causes.{fits, refused-is, encode-yes}
+use Rattle.encoding.proofs.Inverse.{fromAs, numbers, store-reads, store-number, store-feature, placed-sum, values-fit, from-values, store-values, store-fits}
+
+-- ---- decoding
+
+-- what decoding answers, by its test
+known : (b : Bool) (x s : Store) → cond b (Known x) Undefined ≡ Known s → T b × (x ≡ s)
+known true x s e = (tt, cc)
+known false x s e = let z : _≡_ {A = ℕ} 0 1 = cc in absurd (omega arith)
+
+unknown : (b : Bool) (x : Store) → cond b (Known x) Undefined ≡ Undefined → T b → ⊥
+unknown true x e t = let z : _≡_ {A = ℕ} 0 1 = cc in omega arith
+unknown false x e t = t
+
+-- the class that a decoded store is of
+decoded-index : (w : ℕ) (s : Store) → decodeOf w ≡ Known s → (indexOf w < length classes) × (storeOf (classAt (indexOf w)) w ≡ s)
+unfolding decodeOf
+decoded-index w s e =
+    let t = known (ltb (indexOf w) (length classes)) (storeOf (classAt (indexOf w)) w) s e in
+    (ltb→lt (indexOf w) (length classes) (t .0), t .1)
+
+store-class : (c : Class) (w : ℕ) → numberOf (storeOf c w) ≡ c .number
+unfolding storeOf
+store-class c w = store-number (c .feature) c w
+
+pub decodes-its-class : DecodesItsClass
+decodes-its-class k w h = (
+  (λ e.
+      let t = decoded-index w (storeOf (classAt k) w) e in
+      let n : suc (indexOf w) ≡ suc k =
+      sym (number-at (indexOf w) (t .0))
+      ∙ sym (store-class (classAt (indexOf w)) w)
+      ∙ ap numberOf (t .1)
+      ∙ store-class (classAt k) w
+      ∙ number-at k h in
+      let j : indexOf w ≡ k = omega arith in
+      yes (belongs (classAt k) w) (subst (λ (i : ℕ). T (belongs (classAt i) w)) j (index-holds w (t .0)))),
+  (λ b. sym (defined w k (sym (index-found k w h (holds b))) h (storeOf (classAt k) w) refl)),
+)
+
+pub undefined-outside : UndefinedOutside
+unfolding decodeOf
+undefined-outside w = (
+  (λ e k h.
+      no (belongs (classAt k) w)
+      (λ t.
+      let i = index-found k w h t in
+      unknown (ltb (indexOf w) (length classes)) (storeOf (classAt (indexOf w)) w) e (lt→ltb (indexOf w) (length classes) (omega arith)))),
+  (λ f. sym (undefined w (length classes) (sym (index-none w (λ k h t. fails (f k h) t))) (omega arith))),
+)
+
+pub one-class-only : OneClass
+one-class-only w j k hj hk s t = one-class w j k hj hk (holds s) (holds t)
+
+pub mask-is-membership : MaskIsMembership
+mask-is-membership k w h l = ((λ e. yes (belongs (classAt k) w) (masked k h w e)), (λ b. unmasked k h w l (holds b)))
+
+-- ---- encoding
+
+-- what encoding answers, by its test
+word-told : (b : Bool) (x w : ℕ) → cond b Fields (Word x) ≡ Word w → (b ≡ false) × (x ≡ w)
+word-told true x w e = let z : _≡_ {A = ℕ} 0 1 = cc in absurd (omega arith)
+word-told false x w e = (refl, cc)
+
+fields-told : (b : Bool) (x : ℕ) → cond b Fields (Word x) ≡ Fields → b ≡ true
+fields-told true x e = refl
+fields-told false x e = let z : _≡_ {A = ℕ} 0 1 = cc in absurd (omega arith)
+
+one-of : (a b c d e : Bool) → a || b || c || d || e ≡ true → (a ≡ true) ⊎ ((b ≡ true) ⊎ ((c ≡ true) ⊎ ((d ≡ true) ⊎ (e ≡ true))))
+one-of true b c d e h = inl refl
+one-of false true c d e h = inr (inl refl)
+one-of false false true d e h = inr (inr (inl refl))
+one-of false false false true e h = inr (inr (inr (inl refl)))
+one-of false false false false e h = inr (inr (inr (inr h)))
+
+of-one : (a b c d e : Bool) → (a ≡ true) ⊎ ((b ≡ true) ⊎ ((c ≡ true) ⊎ ((d ≡ true) ⊎ (e ≡ true)))) → a || b || c || d || e ≡ true
+of-one true b c d e h = refl
+of-one false true c d e h = refl
+of-one false false true d e h = refl
+of-one false false false true e h = refl
+of-one false false false false true h = refl
+of-one false false false false false (inl h) = h
+of-one false false false false false (inr (inl h)) = h
+of-one false false false false false (inr (inr (inl h))) = h
+of-one false false false false false (inr (inr (inr (inl h)))) = h
+of-one false false false false false (inr (inr (inr (inr h)))) = h
+
+pub refused-for-a-cause : RefusedForACause
+unfolding encodeOf refused
+refused-for-a-cause s =
+    let c = classFor s in (
+      (λ e. one-of (notListed s) (outOfRange c s) (lacked c s) (unnamed c s) (misextended c s) (fields-told (refused s) _ e)),
+      (λ h.
+          ap (λ (b : Bool). cond b Fields (Word (c .base + placed (valuesIn c s))))
+          (of-one (notListed s) (outOfRange c s) (lacked c s) (unnamed c s) (misextended c s) h)),
+    )
+
+-- ---- the two are inverse
+
+pub encodes-decoded : EncodesDecoded
+unfolding storeOf
+encodes-decoded w s h e =
+    let k = indexOf w in
+    let c = classAt k in
+    let x = c .feature in
+    let t = decoded-index w s e in
+    let l = t .0 in
+    let u = storeAs x c w in
+    let r : k ≡ rowFor u =
+    sym (row-found (numberOf u) (flag (featureOf u)) k l (sym (number-at k l) ∙ sym (store-number x c w)) (ap flag (sym (store-feature x c w)))) in
+    let m : c .base + sumAt (placesAs x c) (reads (placesAs x c) w) ≡ w =
+    joined (c .fields) (placesAs x c) (maskOf c) (c .base) (row-at k l) w h (unmasked k l w h (index-holds w l)) in
+    let v : w ≡ c .base + placed (valuesIn c u) =
+    sym m
+    ∙ ap (λ (y : Feature). c .base + sumAt (placesAs y c) (reads (placesAs x c) w)) (sym (store-feature x c w))
+    ∙ sym (ap (λ (n : _). c .base + sumAt (placesAs (featureOf u) c) n) (store-values c (small-at k l) w x (λ q. striding k l q)))
+    ∙ ap (λ (n : ℕ). c .base + n) (sym (placed-sum c u)) in
+    ap encodeOf (sym (t .1))
+    ∙ sym (encode-yes u k r l true w (sym (yes (fits c u) (store-fits c (small-at k l) w x (λ q. striding k l q)))) refl v)
+
+pub decodes-encoded : DecodesEncoded
+unfolding encodeOf refused storeOf
+decodes-encoded s w e =
+    let k = rowFor s in
+    let c = classAt k in
+    let t = word-told (refused s) (c .base + placed (valuesIn c s)) w e in
+    let l : k < length classes = leb-false (length classes) k (first (notListed s) _ _ _ _ (t .0)) in
+    let f : T (fits c s) = holds (not-false (fits c s) (sym (refused-is s k refl l) ∙ t .0)) in
+    let x = c .feature in
+    let q : x ≡ featureOf s = row-holds (numberOf s) (featureOf s) l .1 in
+    let ps = placesAs (featureOf s) c in
+    let vs = numbers c s in
+    let row = subst (λ (y : Feature). Row (c .fields) (placesAs y c) (maskOf c) (c .base)) q (row-at k l) in
+    let fit = values-fit c s f in
+    let v = c .base + sumAt ps vs in
+    let n : v ≡ w = ap (λ (y : ℕ). c .base + y) (sym (placed-sum c s)) ∙ t .1 in
+    let i = index-found k v l (masked k l v (made-masked (c .fields) ps (maskOf c) (c .base) row vs fit)) in
+    let d : storeAs x c v ≡ s =
+    ap (λ (y : Feature). storeAs y c v) q
+    ∙ store-reads (featureOf s) c v
+    ∙ ap (fromAs (featureOf s) c) (made-reads (c .fields) ps (maskOf c) (c .base) row vs fit)
+    ∙ from-values c s (number-at k l ∙ row-holds (numberOf s) (featureOf s) l .0) f in (
+      subst (λ (y : ℕ). y < 2 ^ 32) n (made-small (c .fields) ps (maskOf c) (c .base) row vs fit),
+      ap decodeOf (sym n) ∙ sym (defined v k (sym i) l s (sym d)),
+    )
+  where
+    first : (a b c d f : Bool) → a || b || c || d || f ≡ false → a ≡ false
+    first true b c d f h = h
+    first false b c d f h = refl
