@@ -91,7 +91,7 @@ extended false v = tt
 
 -- ---- a store that fits: its values fit, and make it again
 
-named-parts : (a b i : Bool) → T (not (not (a && b) || not i)) → T a × T b × T i
+pub named-parts : (a b i : Bool) → T (not (not (a && b) || not i)) → T a × T b × T i
 named-parts true true true t = (tt, tt, tt)
 named-parts true true false t = absurd t
 named-parts true false i t = absurd t

@@ -9,3 +9,4 @@ pub mod Causes
 pub mod Fitting
 pub mod Inverse
 pub mod Statements
+pub mod Narrow

@@ -8,12 +8,12 @@ use native.Mathlib.Omega.{arith}
 use lib.Bits.{bitAnd}
 use lib.Dec.{T, eqb, leb, ltb, eqb→eq, eqb-refl, ltb→lt, leb→le, T-not}
 use lib.Ieee.Fits.{and-i, and-l, and-r}
-use lib.ListN.{length, getD}
+use lib.ListN.{length, getD, List·getD-eq-default}
 use borrow.Author.Tests.{eq-eqb}
 use Rattle.encoding.specs.Classes as C
 use Rattle.encoding.specs.Classes.{Field, Zm, Rm, imm4, xs, Pg, Pc, Rn, Zn, Zt, low, Feature, SVE, SME2, SVE2p1, flag, Class, class, noClass, classes, classAt, position, any, everyBelow, bit, inside, belongs, maskBelow, maskOf, has, width}
 use Rattle.encoding.specs.Decoding.{ztOf, indexOf}
-use Rattle.encoding.specs.Encoding.{rowOf}
+use Rattle.encoding.specs.Encoding.{featureNumbered, rowOf}
 use Rattle.encoding.proofs.Tests.{every, every-at, below-at, below-all, holds}
 use Rattle.encoding.proofs.Search.{position-none, position-only, position-holds}
 use Rattle.encoding.proofs.Places.{Place, row-right, Row, row, mask-member, member-mask}
@@ -111,6 +111,22 @@ row-holds n x h =
 
 pub found-feature : (n k : ℕ) (x : Feature) → k ≡ rowOf n (flag x) → k < length classes → classAt k .feature ≡ x
 found-feature n k x e h = ap (λ (j : ℕ). classAt j .feature) e ∙ row-holds n x (subst (λ (j : ℕ). j < length classes) e h) .1
+
+-- ---- a class's feature by its number
+
+pub numbered-found : (n k : ℕ) → k < length classes → suc k ≡ n → featureNumbered n ≡ classAt k .feature
+unfolding featureNumbered classAt
+numbered-found n k h e =
+    ap (λ (j : ℕ). classAt j .feature)
+    (position-only (λ c. eqb (c .number) n) noClass classes k h (holds (eq-eqb (classAt k .number) n (number-at k h ∙ e)))
+    (λ j l t. let q = sym (number-at j l) ∙ eqb→eq (classAt j .number) n t in omega arith))
+
+pub numbered-none : (n : ℕ) → ((k : ℕ) → k < length classes → suc k ≡ n → ⊥) → featureNumbered n ≡ SVE
+unfolding featureNumbered classAt
+numbered-none n f =
+    ap (λ (j : ℕ). classAt j .feature)
+    (position-none (λ c. eqb (c .number) n) noClass classes (λ k h t. f k h (sym (number-at k h) ∙ eqb→eq (classAt k .number) n t)))
+    ∙ ap (λ (c : Class). c .feature) (List·getD-eq-default classes noClass (omega arith))
 
 -- ---- the code's tables are columns of the table of classes
 

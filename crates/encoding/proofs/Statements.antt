@@ -140,14 +140,28 @@ encodes-decoded w s h e =
     ap encodeOf (sym (t .1))
     ∙ sym (encode-yes u k r l true w (sym (yes (fits c u) (store-fits c (small-at k l) w x (λ q. striding k l q)))) refl v)
 
+-- a store with a word is of a class in the list, and fits it
+pub encoded-fits : (s : Store) (w : ℕ) → encodeOf s ≡ Word w
+    → (rowFor s < length classes) × T (fits (classFor s) s) × (classFor s .base + placed (valuesIn (classFor s) s) ≡ w)
+unfolding encodeOf refused
+encoded-fits s w e =
+    let c = classFor s in
+    let t = word-told (refused s) (c .base + placed (valuesIn c s)) w e in
+    let l : rowFor s < length classes = leb-false (length classes) (rowFor s) (first (notListed s) _ _ _ _ (t .0)) in
+    (l, holds (not-false (fits c s) (sym (refused-is s (rowFor s) refl l) ∙ t .0)), t .1)
+  where
+    first : (a b c d f : Bool) → a || b || c || d || f ≡ false → a ≡ false
+    first true b c d f h = h
+    first false b c d f h = refl
+
 pub decodes-encoded : DecodesEncoded
-unfolding encodeOf refused storeOf
+unfolding storeOf
 decodes-encoded s w e =
     let k = rowFor s in
     let c = classAt k in
-    let t = word-told (refused s) (c .base + placed (valuesIn c s)) w e in
-    let l : k < length classes = leb-false (length classes) k (first (notListed s) _ _ _ _ (t .0)) in
-    let f : T (fits c s) = holds (not-false (fits c s) (sym (refused-is s k refl l) ∙ t .0)) in
+    let t = encoded-fits s w e in
+    let l = t .0 in
+    let f = t .1 in
     let x = c .feature in
     let q : x ≡ featureOf s = row-holds (numberOf s) (featureOf s) l .1 in
     let ps = placesAs (featureOf s) c in
@@ -155,7 +169,7 @@ decodes-encoded s w e =
     let row = subst (λ (y : Feature). Row (c .fields) (placesAs y c) (maskOf c) (c .base)) q (row-at k l) in
     let fit = values-fit c s f in
     let v = c .base + sumAt ps vs in
-    let n : v ≡ w = ap (λ (y : ℕ). c .base + y) (sym (placed-sum c s)) ∙ t .1 in
+    let n : v ≡ w = ap (λ (y : ℕ). c .base + y) (sym (placed-sum c s)) ∙ t .2 in
     let i = index-found k v l (masked k l v (made-masked (c .fields) ps (maskOf c) (c .base) row vs fit)) in
     let d : storeAs x c v ≡ s =
     ap (λ (y : Feature). storeAs y c v) q
@@ -165,7 +179,3 @@ decodes-encoded s w e =
       subst (λ (y : ℕ). y < 2 ^ 32) n (made-small (c .fields) ps (maskOf c) (c .base) row vs fit),
       ap decodeOf (sym n) ∙ sym (defined v k (sym i) l s (sym d)),
     )
-  where
-    first : (a b c d f : Bool) → a || b || c || d || f ≡ false → a ≡ false
-    first true b c d f h = h
-    first false b c d f h = refl

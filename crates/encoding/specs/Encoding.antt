@@ -38,6 +38,10 @@ rowFor s = rowOf (numberOf s) (flag (featureOf s))
 abbrev pub classFor : Store → Class
 classFor s = classAt (rowFor s)
 
+-- the feature of the class with this number; what is named of a class not in the list is refused in any case of store
+unfoldable pub featureNumbered : ℕ → Feature
+featureNumbered n = classAt (position (λ c. eqb (c .number) n) classes) .feature
+
 -- ---- the values of its fields
 
 -- a field and its value

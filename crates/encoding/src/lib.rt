@@ -5,9 +5,9 @@ ghost use mathlib.Core.Path.{_≡_};
 ghost use mathlib.Core.Bool.{not, _&&_};
 ghost use Prim.Native.Nat.{_+_, _*_, _/_, _%_, _<_, _≤_};
 ghost use lib.Dec.{ltb};
-ghost use Rattle.encoding.specs.Classes.{SVE, SME2, SVE2p1, classAt};
+ghost use Rattle.encoding.specs.Classes.{SVE, SME2, SVE2p1, classAt, flag};
 ghost use Rattle.encoding.specs.Decoding.{decodeOf, storeOf, multipleOf, extensionOf};
-ghost use Rattle.encoding.specs.Encoding.{encodeOf, immOf, misextends, xsOf};
+ghost use Rattle.encoding.specs.Encoding.{encodeOf, featureNumbered, immOf, misextends, xsOf};
 use table::CLASSES;
 use table::base_of;
 use table::index_of;
@@ -313,4 +313,20 @@ pub fn encode(store: Store) -> Encoded
         Store::Strided(f) => encode_strided(f),
         Store::Quadword(f) => encode_quadword(f),
     }
+}
+
+// The number of the flag that the class with this number needs; 0 where the list has no such class.
+pub fn feature_of(class: u8) -> u32
+    ensures is { λ r. ⌜ r ≡ flag (featureNumbered class) ⌝ }
+    ensures bounded { λ r. ⌜ r < 3 ⌝ }
+{
+    if class == 0 {
+        return 0;
+    }
+    let k = (class - 1) as usize;
+    if CLASSES <= k {
+        return 0;
+    }
+    let layout = layout_of(k);
+    layout.feature
 }

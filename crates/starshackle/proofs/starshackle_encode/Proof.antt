@@ -1,0 +1,33 @@
+-- By what encoding answers. Assumes nothing.
+use mathlib.Core.Path.{_≡_, sym, ap, _∙_}
+use Rattle.encoding.specs.Answers.{encodedNumber}
+use Rattle.starshackle.specs.Codec.{encodedAnswers}
+use borrow.Author.Needs.{needs}
+use Rattle.starshackle.proofs.starshackle_encode.Statement.{statement}
+use Rattle.starshackle.proofs.starshackle_encode.Tie as tie
+
+encode-given-requires : tie.Need-encode-given-requires
+encode-given-requires c κs = search needs
+
+enum-known-word : tie.Need-enum-known-word
+enum-known-word c = search needs
+
+cast-t6 : tie.Need-cast-t6
+cast-t6 c = search needs
+
+enum-told : tie.Need-enum-told
+enum-told c = search needs
+
+returns : tie.Need-returns
+returns c =
+    let e = sym (c .before .before .word .given .1) ∙ c .before .before .before .before .encode-given .ensures in
+    (ap encodedNumber e, ap encodedAnswers e)
+
+returns-2 : tie.Need-returns-2
+returns-2 c =
+    let e = sym (c .before .enum-told .given .1) ∙ c .before .before .before .encode-given .ensures in
+    (ap encodedNumber e, ap encodedAnswers e)
+
+pub starshackle-encode-spec : {M : Type 1} → statement M
+starshackle-encode-spec =
+    tie.close (tie.spec encode-given-requires enum-known-word cast-t6 enum-told returns returns-2)

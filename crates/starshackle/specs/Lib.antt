@@ -1,0 +1,2 @@
+-- What the functions for C and Rust answer, over the definitions of the crates below.
+pub mod Codec

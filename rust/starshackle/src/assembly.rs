@@ -1,0 +1,115 @@
+//! Arm's assembly text of a decoded store, spelled as LLVM's disassembler spells it.
+//!
+//! This module is not proved. It serves messages and the comparison with LLVM.
+
+use crate::{Extension, Store};
+
+/// A line for each class, in order: its syntax as Arm's pages give it, in lower case.
+const SYNTAX: &[&str] = &[
+    "st1d { <Zt>.d }, <Pg>, [<Xn|SP>, <Zm>.d, <mod> #3]",
+    "st1d { <Zt>.d }, <Pg>, [<Xn|SP>, <Zm>.d, <mod>]",
+    "st1d { <Zt>.d }, <Pg>, [<Xn|SP>, <Zm>.d, lsl #3]",
+    "st1d { <Zt>.d }, <Pg>, [<Xn|SP>, <Zm>.d]",
+    "st1b { <Zt>.d }, <Pg>, [<Xn|SP>, <Zm>.d, <mod>]",
+    "st1b { <Zt>.s }, <Pg>, [<Xn|SP>, <Zm>.s, <mod>]",
+    "st1b { <Zt>.d }, <Pg>, [<Xn|SP>, <Zm>.d]",
+    "st1d { <Zt1>.d, <Zt2>.d }, <PNg>, [<Xn|SP>, <Xm>, lsl #3]",
+    "st1d { <Zt1>.d, <Zt2>.d, <Zt3>.d, <Zt4>.d }, <PNg>, [<Xn|SP>, <Xm>, lsl #3]",
+    "st1d { <Zt1>.d, <Zt2>.d }, <PNg>, [<Xn|SP>{, #<imm>, mul vl}]",
+    "st1d { <Zt1>.d, <Zt2>.d, <Zt3>.d, <Zt4>.d }, <PNg>, [<Xn|SP>{, #<imm>, mul vl}]",
+    "st1q { <Zt>.q }, <Pg>, [<Zn>.d{, <Xm>}]",
+];
+
+/// The text of a store that [`crate::decode`] has answered; none for a class not in the list.
+pub fn text(store: &Store) -> Option<String> {
+    let line = usize::try_from(store.class).ok()?.checked_sub(1)?;
+    let syntax = with_option(SYNTAX.get(line)?, store);
+    let stride = if syntax.contains("<Zt4>") { 4 } else { 8 };
+    let mut parts = syntax.split('<');
+    let mut text = parts.next()?.to_string();
+    for part in parts {
+        let (symbol, literal) = part.split_once('>')?;
+        text += &operand(symbol, stride, store)?;
+        text += literal;
+    }
+    Some(text)
+}
+
+/// The syntax with its optional part, `{, ..}`, kept, or left away where it says the default.
+fn with_option(syntax: &str, store: &Store) -> String {
+    let default = if syntax.contains("<imm>") { store.multiple == 0 } else { store.index == 31 };
+    let parts = syntax.split_once("{,").and_then(|(before, rest)| {
+        let (option, after) = rest.split_once('}')?;
+        Some((before, option, after))
+    });
+    match parts {
+        None => syntax.to_string(),
+        Some((before, _, after)) if default => format!("{before}{after}"),
+        Some((before, option, after)) => format!("{before},{option}{after}"),
+    }
+}
+
+/// What stands for one of Arm's assembler symbols.
+fn operand(symbol: &str, stride: u64, store: &Store) -> Option<String> {
+    let vector = |step: u64| format!("z{}", store.register.wrapping_add(step * stride));
+    Some(match symbol {
+        "Zt" | "Zt1" => vector(0),
+        "Zt2" => vector(1),
+        "Zt3" => vector(2),
+        "Zt4" => vector(3),
+        "Pg" => format!("p{}", store.predicate),
+        "PNg" => format!("pn{}", store.predicate.wrapping_add(8)),
+        "Xn|SP" => general(store.base, "sp"),
+        "Xm" => general(store.index, "xzr"),
+        "Zn" => format!("z{}", store.base),
+        "Zm" => format!("z{}", store.index),
+        "imm" => store.multiple.to_string(),
+        "mod" => match store.extension? {
+            Extension::Uxtw => "uxtw".to_string(),
+            Extension::Sxtw => "sxtw".to_string(),
+        },
+        _ => return None,
+    })
+}
+
+/// A general register, whose number 31 has a name of its own.
+fn general(number: u64, name_of_31: &str) -> String {
+    match number {
+        31 => name_of_31.to_string(),
+        _ => format!("x{number}"),
+    }
+}
+
+#[cfg(test)]
+mod tests {
+    use super::*;
+
+    fn text_of(fields: crate::Fields) -> Option<String> {
+        text(&Store::from(fields))
+    }
+
+    #[test]
+    fn texts() {
+        let cases = [
+            ([1, 2, 2, 3, 31, 4, 0, 0], "st1d { z4.d }, p3, [sp, z2.d, sxtw #3]"),
+            ([6, 31, 1, 7, 30, 5, 0, 0], "st1b { z5.s }, p7, [x30, z31.s, uxtw]"),
+            ([8, 31, 0, 0, 1, 23, 0, 0], "st1d { z23.d, z31.d }, pn8, [x1, xzr, lsl #3]"),
+            (
+                [11, 0, 0, 7, 2, 19, (-32i64) as u64, 0],
+                "st1d { z19.d, z23.d, z27.d, z31.d }, pn15, [x2, #-32, mul vl]",
+            ),
+            ([10, 0, 0, 0, 0, 0, 0, 0], "st1d { z0.d, z8.d }, pn8, [x0]"),
+            ([12, 30, 0, 1, 31, 2, 0, 0], "st1q { z2.q }, p1, [z31.d, x30]"),
+            ([12, 31, 0, 1, 31, 2, 0, 0], "st1q { z2.q }, p1, [z31.d]"),
+        ];
+        for (fields, text) in cases {
+            assert_eq!(text_of(fields).as_deref(), Some(text));
+        }
+    }
+
+    #[test]
+    fn no_text() {
+        assert_eq!(text_of([0; 8]), None);
+        assert_eq!(text_of([u64::MAX, 0, 0, 0, 0, 0, 0, 0]), None);
+    }
+}
