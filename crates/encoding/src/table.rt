@@ -71,13 +71,19 @@ pub fn layout_of(k: usize) -> Layout
     ensures bounded { λ r. ⌜ Bounded r ⌝ }
 {
     let row = LAYOUTS[k];
+    let feature = row[0];
+    let nreg = row[1];
+    let xs = row[2];
+    let rm = row[3];
+    let imm4 = row[4];
+    let zt = row[5];
     Layout {
-        feature: row[0],
-        nreg: row[1],
-        xs: row[2],
-        rm: row[3],
-        imm4: row[4],
-        zt: row[5],
+        feature,
+        nreg,
+        xs,
+        rm,
+        imm4,
+        zt,
     }
 }
 

@@ -15,23 +15,23 @@ mul-row c = search needs
 array-copy-out-row : tie.Need-array-copy-out-row
 array-copy-out-row c = search needs
 
-array-read-t22 : tie.Need-array-read-t22
-array-read-t22 c = search needs
+array-read-feature : tie.Need-array-read-feature
+array-read-feature c = search needs
 
-array-read-t25 : tie.Need-array-read-t25
-array-read-t25 c = search needs
+array-read-nreg : tie.Need-array-read-nreg
+array-read-nreg c = search needs
 
-array-read-t28 : tie.Need-array-read-t28
-array-read-t28 c = search needs
+array-read-xs : tie.Need-array-read-xs
+array-read-xs c = search needs
 
-array-read-t31 : tie.Need-array-read-t31
-array-read-t31 c = search needs
+array-read-rm : tie.Need-array-read-rm
+array-read-rm c = search needs
 
-array-read-t34 : tie.Need-array-read-t34
-array-read-t34 c = search needs
+array-read-imm4 : tie.Need-array-read-imm4
+array-read-imm4 c = search needs
 
-array-read-t37 : tie.Need-array-read-t37
-array-read-t37 c = search needs
+array-read-zt : tie.Need-array-read-zt
+array-read-zt c = search needs
 
 returns : tie.Need-returns
 unfolding classes column any has
@@ -46,10 +46,10 @@ layout-of-spec =
     (tie.spec
     mul-row
     array-copy-out-row
-    array-read-t22
-    array-read-t25
-    array-read-t28
-    array-read-t31
-    array-read-t34
-    array-read-t37
+    array-read-feature
+    array-read-nreg
+    array-read-xs
+    array-read-rm
+    array-read-imm4
+    array-read-zt
     returns)
