@@ -65,14 +65,25 @@ zt-whole c w = go (has c Zt3)
 
 pub layout-is : (c : Class) (r : List ℕ) → r ≡ layout-row c
     → _≡_ {A = Layout}
-    (record { feature = getD r 0 0; nreg = getD r 1 0; xs = getD r 2 0; rm = getD r 3 0; imm4 = getD r 4 0; zt = getD r 5 0 })
+    (record { feature = getD r 0 0; nreg = getD r 1 0; xs = getD r 2 0; rm = getD r 3 0; imm4 = getD r 4 0; zt = getD r 5 0; step = getD r 6 0; size = getD r 7 0; scale = getD r 8 0 })
     (layoutOf c)
 layout-is c r e =
-    λ i. record { feature = getD (e i) 0 0; nreg = getD (e i) 1 0; xs = getD (e i) 2 0; rm = getD (e i) 3 0; imm4 = getD (e i) 4 0; zt = getD (e i) 5 0 }
+    λ i.
+    record {
+      feature = getD (e i) 0 0;
+      nreg = getD (e i) 1 0;
+      xs = getD (e i) 2 0;
+      rm = getD (e i) 3 0;
+      imm4 = getD (e i) 4 0;
+      zt = getD (e i) 5 0;
+      step = getD (e i) 6 0;
+      size = getD (e i) 7 0;
+      scale = getD (e i) 8 0;
+    }
 
 pub layout-bounded : (c : Class) (l : Layout) → l ≡ layoutOf c → Small c → Bounded l
 layout-bounded c l e s =
-    subst Bounded (sym e) (record { feature = s .feature; nreg = s .nreg; xs = s .xs; rm = s .rm; imm4 = s .imm4; zt = s .zt })
+    subst Bounded (sym e) (record { feature = s .feature; nreg = s .nreg; xs = s .xs; rm = s .rm; imm4 = s .imm4; zt = s .zt; step = s .step; size = s .size; scale = s .scale })
 
 -- a class's flag, in its layout and out of it
 pub flag-of : (k : ℕ) (l : Layout) (x : ℕ) → l ≡ layoutOf (classAt k) → l .feature ≡ x → flag (classAt k .feature) ≡ x

@@ -2,7 +2,7 @@
 use mathlib.Core.Path.{_≡_, refl, sym, ap, _∙_, subst}
 use mathlib.Core.Bool.{Bool, true, false, not, cond, _&&_, _||_}
 use mathlib.Core.List.{List, [], _∷_, map}
-use Prim.Native.Nat.{ℕ, zero, suc, _+_, _^_, _≤_, _<_}
+use Prim.Native.Nat.{ℕ, zero, suc, _+_, _/_, _^_, _≤_, _<_}
 use native.Mathlib.Nat.{not-suc-le-zero, le-of-suc-le-suc}
 use native.Mathlib.Omega.{arith}
 use lib.Bits.{bitAnd}
@@ -157,7 +157,7 @@ member k w h l t = subst (λ (r : List ℕ). bitAnd w (getD r 0 0) ≡ getD r 1 
 
 abbrev pub layout-row : Class → List ℕ
 layout-row c =
-    flag (c .feature) ∷ c .nreg ∷ 2 ^ width c xs ∷ 2 ^ width c Rm ∷ 2 ^ width c imm4 ∷ 2 ^ width c (ztOf c) ∷ []
+    flag (c .feature) ∷ c .nreg ∷ 2 ^ width c xs ∷ 2 ^ width c Rm ∷ 2 ^ width c imm4 ∷ 2 ^ width c (ztOf c) ∷ c .esize / 8 ∷ c .msize / 8 ∷ c .scale ∷ []
 
 -- ---- how large a class's numbers are, and which fields all classes of a feature have
 
@@ -169,7 +169,10 @@ small c =
     ltb (flag (c .feature)) 3
     && (leb (c .nreg) 4
     && (within 1 2 (2 ^ width c xs)
-    && (within 1 32 (2 ^ width c Rm) && (within 1 16 (2 ^ width c imm4) && (within 1 8 (2 ^ width c (ztOf c)) && leb (c .base) 0xF0000000)))))
+    && (within 1 32 (2 ^ width c Rm)
+    && (within 1 16 (2 ^ width c imm4)
+    && (within 1 8 (2 ^ width c (ztOf c))
+    && (within 1 16 (c .esize / 8) && (within 1 (c .esize / 8) (c .msize / 8) && (ltb (c .scale) 4 && leb (c .base) 0xF0000000))))))))
 
 formedAs : Feature → Class → Bool
 formedAs SVE c = eqb (width c Zm) 5 && (eqb (width c Pg) 3 && (eqb (width c Rn) 5 && eqb (width c Zt) 5))
@@ -190,6 +193,9 @@ pub record Small (c : Class) : Type 0 where
   pub rm : (1 ≤ 2 ^ width c Rm) × (2 ^ width c Rm ≤ 32)
   pub imm4 : (1 ≤ 2 ^ width c imm4) × (2 ^ width c imm4 ≤ 16)
   pub zt : (1 ≤ 2 ^ width c (ztOf c)) × (2 ^ width c (ztOf c) ≤ 8)
+  pub step : (1 ≤ c .esize / 8) × (c .esize / 8 ≤ 16)
+  pub size : (1 ≤ c .msize / 8) × (c .msize / 8 ≤ c .esize / 8)
+  pub scale : c .scale < 4
   pub base : c .base ≤ 0xF0000000
 
 within-is : (l n x : ℕ) → T (within l n x) → (l ≤ x) × (x ≤ n)
@@ -202,6 +208,9 @@ smallness c t =
     let t₃ = and-r (within 1 2 (2 ^ width c xs)) _ t₂ in
     let t₄ = and-r (within 1 32 (2 ^ width c Rm)) _ t₃ in
     let t₅ = and-r (within 1 16 (2 ^ width c imm4)) _ t₄ in
+    let t₆ = and-r (within 1 8 (2 ^ width c (ztOf c))) _ t₅ in
+    let t₇ = and-r (within 1 16 (c .esize / 8)) _ t₆ in
+    let t₈ = and-r (within 1 (c .esize / 8) (c .msize / 8)) _ t₇ in
     record {
       feature = ltb→lt (flag (c .feature)) 3 (and-l (ltb (flag (c .feature)) 3) _ t);
       nreg = leb→le (c .nreg) 4 (and-l (leb (c .nreg) 4) _ t₁);
@@ -209,7 +218,10 @@ smallness c t =
       rm = within-is 1 32 (2 ^ width c Rm) (and-l (within 1 32 (2 ^ width c Rm)) _ t₃);
       imm4 = within-is 1 16 (2 ^ width c imm4) (and-l (within 1 16 (2 ^ width c imm4)) _ t₄);
       zt = within-is 1 8 (2 ^ width c (ztOf c)) (and-l (within 1 8 (2 ^ width c (ztOf c))) _ t₅);
-      base = leb→le (c .base) 0xF0000000 (and-r (within 1 8 (2 ^ width c (ztOf c))) _ t₅);
+      step = within-is 1 16 (c .esize / 8) (and-l (within 1 16 (c .esize / 8)) _ t₆);
+      size = within-is 1 (c .esize / 8) (c .msize / 8) (and-l (within 1 (c .esize / 8) (c .msize / 8)) _ t₇);
+      scale = ltb→lt (c .scale) 4 (and-l (ltb (c .scale) 4) _ t₈);
+      base = leb→le (c .base) 0xF0000000 (and-r (ltb (c .scale) 4) _ t₈);
     }
 
 pub record Scattered (c : Class) : Type 0 where

@@ -1,5 +1,5 @@
 -- What the code keeps of a class, beside mask and base word. For the contracts of its own functions. Assumes nothing.
-use Prim.Native.Nat.{ℕ, _^_, _≤_, _<_}
+use Prim.Native.Nat.{ℕ, _/_, _^_, _≤_, _<_}
 use Rattle.encoding.specs.Classes.{Rm, imm4, xs, flag, Class, width}
 use Rattle.encoding.specs.Decoding.{ztOf}
 use Rattle.encoding.specs.declared.Layout.{Layout}
@@ -13,6 +13,9 @@ layoutOf c =
       rm = 2 ^ width c Rm;
       imm4 = 2 ^ width c imm4;
       zt = 2 ^ width c (ztOf c);
+      step = c .esize / 8;
+      size = c .msize / 8;
+      scale = c .scale;
     }
 
 -- how large its numbers are
@@ -23,3 +26,6 @@ pub record Bounded (l : Layout) : Type 0 where
   pub rm : (0 < l .rm) × (l .rm ≤ 32)
   pub imm4 : (0 < l .imm4) × (l .imm4 ≤ 16)
   pub zt : (0 < l .zt) × (l .zt ≤ 8)
+  pub step : (0 < l .step) × (l .step ≤ 16)
+  pub size : (0 < l .size) × (l .size ≤ l .step)
+  pub scale : l .scale < 4

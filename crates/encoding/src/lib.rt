@@ -69,8 +69,8 @@ pub enum Encoded {
     Fields,
 }
 
-// What code needs of a class: the number of its feature's flag, its number of registers, and how many values the fields can
-// take in which classes of one feature differ, 1 for a field that the class lacks.
+// What code needs of a class: the number of its feature's flag, its number of registers; how many values the fields can take in
+// which classes of one feature differ, 1 for a field that the class lacks; esize/8, msize/8 and the scale.
 pub struct Layout {
     pub feature: u32,
     pub nreg: u32,
@@ -78,6 +78,9 @@ pub struct Layout {
     pub rm: u32,
     pub imm4: u32,
     pub zt: u32,
+    pub step: u32,
+    pub size: u32,
+    pub scale: u32,
 }
 
 // imm4 read as -8..7, times the number of registers.

@@ -25,20 +25,20 @@ const ROWS: [[u32; 2]; 12] = [
     [0xFFE0E000, 0xE4202000],
 ];
 
-// The layout of each class: feature, nreg, and how many values xs, Rm, imm4 and the strided Zt have.
-const LAYOUTS: [[u32; 6]; 12] = [
-    [0, 1, 2, 1, 1, 1],
-    [0, 1, 2, 1, 1, 1],
-    [0, 1, 1, 1, 1, 1],
-    [0, 1, 1, 1, 1, 1],
-    [0, 1, 2, 1, 1, 1],
-    [0, 1, 2, 1, 1, 1],
-    [0, 1, 1, 1, 1, 1],
-    [1, 2, 1, 32, 1, 8],
-    [1, 4, 1, 32, 1, 4],
-    [1, 2, 1, 1, 16, 8],
-    [1, 4, 1, 1, 16, 4],
-    [2, 1, 1, 32, 1, 1],
+// The layout of each class: feature, nreg, how many values xs, Rm, imm4 and the strided Zt have, esize/8, msize/8, scale.
+const LAYOUTS: [[u32; 9]; 12] = [
+    [0, 1, 2, 1, 1, 1, 8, 8, 3],
+    [0, 1, 2, 1, 1, 1, 8, 8, 0],
+    [0, 1, 1, 1, 1, 1, 8, 8, 3],
+    [0, 1, 1, 1, 1, 1, 8, 8, 0],
+    [0, 1, 2, 1, 1, 1, 8, 1, 0],
+    [0, 1, 2, 1, 1, 1, 4, 1, 0],
+    [0, 1, 1, 1, 1, 1, 8, 1, 0],
+    [1, 2, 1, 32, 1, 8, 8, 8, 3],
+    [1, 4, 1, 32, 1, 4, 8, 8, 3],
+    [1, 2, 1, 1, 16, 8, 8, 8, 0],
+    [1, 4, 1, 1, 16, 4, 8, 8, 0],
+    [2, 1, 1, 32, 1, 1, 16, 16, 0],
 ];
 
 // The place in the table of the class that the word belongs to; CLASSES where it belongs to none.
@@ -77,6 +77,9 @@ pub fn layout_of(k: usize) -> Layout
     let rm = row[3];
     let imm4 = row[4];
     let zt = row[5];
+    let step = row[6];
+    let size = row[7];
+    let scale = row[8];
     Layout {
         feature,
         nreg,
@@ -84,6 +87,9 @@ pub fn layout_of(k: usize) -> Layout
         rm,
         imm4,
         zt,
+        step,
+        size,
+        scale,
     }
 }
 

@@ -33,6 +33,15 @@ array-read-imm4 c = search needs
 array-read-zt : tie.Need-array-read-zt
 array-read-zt c = search needs
 
+array-read-step : tie.Need-array-read-step
+array-read-step c = search needs
+
+array-read-size : tie.Need-array-read-size
+array-read-size c = search needs
+
+array-read-scale : tie.Need-array-read-scale
+array-read-scale c = search needs
+
 returns : tie.Need-returns
 unfolding classes column any has
 returns c =
@@ -52,4 +61,7 @@ layout-of-spec =
     array-read-rm
     array-read-imm4
     array-read-zt
+    array-read-step
+    array-read-size
+    array-read-scale
     returns)

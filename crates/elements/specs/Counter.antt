@@ -1,0 +1,24 @@
+-- A predicate register as a counter: document 01, 'Active elements'. Assumes nothing.
+use Prim.Native.Nat.{ℕ, _+_, _*_, _/_, _%_, _^_}
+use mathlib.Core.Bool.{Bool, true, false, not, cond, _&&_}
+use lib.Dec.{eqb, ltb, leb}
+
+-- "Its low four bits choose the counter's element size: xxx1 is 8, xx10 is 16, x100 is 32, 1000 is 64": the place of the lowest set
+-- bit, by which the size is 8 times a power of two
+unfoldable pub lowestSet : ℕ → ℕ
+lowestSet v = cond (eqb (v % 2) 1) 0 (cond (eqb (v % 4) 2) 1 (cond (eqb (v % 8) 4) 2 3))
+
+-- size/8
+abbrev pub unitOf : ℕ → ℕ
+unitOf v = 2 ^ lowestSet v
+
+-- "The count is the number above the lowest set bit, up to bit 14."
+unfoldable pub countIn : ℕ → ℕ
+countIn v = v % 2 ^ 15 / 2 ^ (lowestSet v + 1)
+
+-- "Counter element k sets bit k·size/8 of a mask over four registers when k < count, or when k ≥ count if bit 15 is set; the mask's
+-- other bits are 0"; "0000 means nothing is active whatever bit 15 says"
+unfoldable pub maskBit : ℕ → ℕ → Bool
+maskBit v i =
+    not (eqb (v % 16) 0)
+    && (eqb (i % unitOf v) 0 && cond (ltb v (2 ^ 15)) (ltb (i / unitOf v) (countIn v)) (leb (countIn v) (i / unitOf v)))
