@@ -1,0 +1,60 @@
+//! What the command line does beyond the answers in `tests/golden/`.
+
+use std::process::{Command, Output};
+
+/// Words of all classes.
+const WORDS: &[&str] = &[
+    "E5A3D7E7", "E59F9C3F", "E5A1A864", "E590A502", "E409CD4B", "E4428001", "E41EB3BC", "A13F7FF7",
+    "A125E453", "A16F6000", "A168E000", "E43F398D",
+];
+
+fn command(arguments: &[&str]) -> Command {
+    let mut command = Command::new(env!("CARGO_BIN_EXE_starshackle"));
+    command.args(arguments);
+    command
+}
+
+fn text_of(output: Output) -> String {
+    assert_eq!(output.status.code(), Some(0));
+    String::from_utf8(output.stdout).unwrap()
+}
+
+/// The members of an answer in JSON that `encode` takes, as NAME=VALUE.
+fn pairs(answer: &str) -> Vec<String> {
+    let behind = |key: &str| answer.split_once(key).unwrap().1;
+    let class = behind("\"class\": ").split_once(',').unwrap().0;
+    let fields = behind("\"fields\": {").split_once('}').unwrap().0;
+    let fields = fields.split(", ").map(|member| member.replace('"', "").replace(": ", "="));
+    fields.chain([format!("class={class}")]).collect()
+}
+
+#[test]
+fn encode_takes_what_decode_gives() {
+    for word in WORDS {
+        let answer = text_of(command(&["decode", "--json", word]).output().unwrap());
+        let encoded = text_of(command(&["encode"]).args(pairs(&answer)).output().unwrap());
+        assert_eq!(encoded, format!("{word}\n"));
+    }
+}
+
+#[cfg(target_os = "linux")]
+#[test]
+fn a_full_disk_is_told() {
+    use std::fs::OpenOptions;
+
+    let full = OpenOptions::new().write(true).open("/dev/full").unwrap();
+    let output = command(&["decode", "A16F6000"]).stdout(full).output().unwrap();
+    assert_eq!(output.status.code(), Some(2));
+    assert!(String::from_utf8(output.stderr).unwrap().starts_with("starshackle: standard output:"));
+}
+
+#[cfg(unix)]
+#[test]
+fn an_argument_that_is_not_utf_8() {
+    use std::ffi::OsStr;
+    use std::os::unix::ffi::OsStrExt;
+
+    let output = command(&["decode"]).arg(OsStr::from_bytes(&[0xFF])).output().unwrap();
+    assert_eq!(output.status.code(), Some(2));
+    assert!(output.stdout.is_empty());
+}
