@@ -3,3 +3,4 @@ pub mod Machine
 pub mod Counter
 pub mod Stores
 pub mod Elements
+pub mod Plans

@@ -1,1 +1,176 @@
-// The elements of a store on a lent machine.
+// The elements of a store on a lent machine. A store's numbers are decided once, in a plan; its elements are then read by number.
+ghost use mathlib.Core.Path.{_≡_};
+ghost use mathlib.Core.Bool.{cond};
+ghost use mathlib.Core.List.{[]};
+ghost use Prim.Native.Nat.{_+_, _*_, _/_, _%_, _^_, _≤_, _<_};
+ghost use lib.Dec.{eqb};
+ghost use lib.ListN.{length, take, drop, getD};
+ghost use Rattle.writes.specs.LittleEndian.{leVal};
+ghost use Rattle.elements.specs.Machine.{register, bitAt};
+ghost use Rattle.elements.specs.Counter.{lowestSet, countIn, maskBit};
+ghost use Rattle.elements.specs.Stores.{signed32};
+ghost use Rattle.elements.specs.Plans.{offsetBytes, offsetFrom, vectorAddress, vectorActive, stridedAddress, stridedActive};
+use encoding::Extension;
+
+// A scatter or quadword store: base and offset of each address, bytes from element to element, bytes to move, the elements' number,
+// and the registers with the offsets, the predicate and the data.
+pub struct VectorPlan {
+    pub base: u64,
+    pub extension: Extension,
+    pub scale: u32,
+    pub step: usize,
+    pub size: usize,
+    pub count: usize,
+    pub offsets: usize,
+    pub governing: usize,
+    pub stored: usize,
+}
+
+// A strided store: its first address, its counter with the place of its lowest set bit and its count, bytes from element to element,
+// bytes to move, elements a register, and its registers: the first, their number, and the distance from one to the next.
+pub struct StridedPlan {
+    pub start: u64,
+    pub counter: u64,
+    pub shift: u32,
+    pub counted: u64,
+    pub step: usize,
+    pub size: usize,
+    pub per: usize,
+    pub nreg: usize,
+    pub first: usize,
+    pub stride: usize,
+}
+
+// Bit i of a row of bytes.
+pub fn bit(s: &[u8], i: usize) -> bool
+    requires { ⌜ i / 8 < length (now s) ⌝ }
+    ensures { λ r. ⌜ r ≡ bitAt (now (s .entry)) i ⌝ }
+{
+    let b = writes::wide(s[i / 8]);
+    (b >> (i % 8)) % 2 == 1
+}
+
+// General register n; `last` for number 31.
+pub fn general(x: &[u64; 31], last: u64, n: u8) -> u64
+    requires { ⌜ n < 32 ⌝ }
+    ensures { λ r. ⌜ r ≡ cond (eqb n 31) last (getD (now (x .entry)) n 0) ⌝ }
+{
+    if n == 31 {
+        return last;
+    }
+    x[n as usize]
+}
+
+// The bytes of register r of a buffer whose registers have n bytes each.
+pub fn register_of(s: &[u8], n: usize, r: usize) -> &[u8]
+    requires { ⌜ r * n + n ≤ length (now s) ⌝ }
+    ensures { λ q. ⌜ now q ≡ register n (now (s .entry)) r ⌝ }
+{
+    let at = r * n;
+    let end = at + n;
+    &s[at..end]
+}
+
+// x * 2^s, modulo 2^64.
+pub fn scaled(x: u64, s: u32) -> u64
+    requires { ⌜ s < 64 ⌝ }
+    ensures { λ r. ⌜ r ≡ (x * 2 ^ s) % 2 ^ 64 ⌝ }
+{
+    x << s
+}
+
+// A number below 2^32, extended by its sign to 64 bits.
+fn extended(x: u64) -> u64
+    requires { ⌜ x < 2 ^ 32 ⌝ }
+    ensures { λ r. ⌜ r ≡ signed32 x ⌝ }
+{
+    if x < 0x80000000 {
+        x
+    } else {
+        x + 0xFFFFFFFF00000000
+    }
+}
+
+// The offset whose element starts at byte `at` of its register.
+fn offset(extension: Extension, reg: &[u8], at: usize) -> u64
+    requires { ⌜ at + offsetBytes extension ≤ length (now reg) ⌝ }
+    ensures { λ r. ⌜ r ≡ offsetFrom extension (now (reg .entry)) at ⌝ }
+{
+    match extension {
+        Extension::None => writes::le64(reg, at),
+        Extension::Uxtw => writes::le32(reg, at),
+        Extension::Sxtw => extended(writes::le32(reg, at)),
+    }
+}
+
+// The address of element e of a scatter or quadword store.
+pub fn vector_address(v: VectorPlan, offsets: &[u8], e: usize) -> u64
+    requires { ⌜ e * v .step + offsetBytes (v .extension) ≤ length (now offsets) ⌝ }
+    requires { ⌜ v .scale < 64 ⌝ }
+    ensures { λ r. ⌜ r ≡ vectorAddress v (now (offsets .entry)) e ⌝ }
+{
+    let extension = v.extension;
+    let o = offset(extension, offsets, e * v.step);
+    std::num::wrapping_add_u64(v.base, scaled(o, v.scale))
+}
+
+// Whether element e of a scatter or quadword store is active.
+pub fn vector_active(v: VectorPlan, governing: &[u8], e: usize) -> bool
+    requires { ⌜ e * v .step / 8 < length (now governing) ⌝ }
+    requires { ⌜ e * v .step < 0x10000 ⌝ }
+    ensures { λ r. ⌜ r ≡ vectorActive v (now (governing .entry)) e ⌝ }
+{
+    bit(governing, e * v.step)
+}
+
+// The place of a counter's lowest set bit among its low four.
+pub fn lowest_set(v: u64) -> u32
+    ensures { λ r. ⌜ (r ≡ lowestSet v) × (r < 4) ⌝ }
+{
+    if v % 2 == 1 {
+        return 0;
+    }
+    if v % 4 == 2 {
+        return 1;
+    }
+    if v % 8 == 4 {
+        return 2;
+    }
+    3
+}
+
+// A counter's count, with the place of its lowest set bit.
+pub fn counted(v: u64, shift: u32) -> u64
+    requires { ⌜ (shift ≡ lowestSet v) × (shift < 4) ⌝ }
+    ensures { λ r. ⌜ r ≡ countIn v ⌝ }
+{
+    (v % 0x8000) >> (shift + 1)
+}
+
+// Whether element e of a strided store is active.
+pub fn strided_active(s: StridedPlan, e: usize) -> bool
+    requires { ⌜ (s .shift ≡ lowestSet (s .counter)) × (s .counted ≡ countIn (s .counter)) ⌝ }
+    requires { ⌜ (e * s .step < 0x10000) × (s .shift < 4) ⌝ }
+    ensures { λ r. ⌜ r ≡ stridedActive s e ⌝ }
+{
+    if s.counter % 16 == 0 {
+        return false;
+    }
+    let i = (e * s.step) as u64;
+    let k = i >> s.shift;
+    if k << s.shift != i {
+        return false;
+    }
+    if s.counter < 0x8000 {
+        return k < s.counted;
+    }
+    s.counted <= k
+}
+
+// The address of element e of a strided store.
+pub fn strided_address(s: StridedPlan, e: usize) -> u64
+    requires { ⌜ e * s .step < 0x10000 ⌝ }
+    ensures { λ r. ⌜ r ≡ stridedAddress s e ⌝ }
+{
+    std::num::wrapping_add_u64(s.start, (e * s.step) as u64)
+}

@@ -7,7 +7,8 @@ ghost use Prim.Native.Nat.{_+_, _*_, _/_, _%_, _<_, _≤_};
 ghost use lib.Dec.{ltb};
 ghost use Rattle.encoding.specs.Classes.{SVE, SME2, SVE2p1, classAt, flag};
 ghost use Rattle.encoding.specs.Decoding.{decodeOf, storeOf, multipleOf, extensionOf};
-ghost use Rattle.encoding.specs.Encoding.{encodeOf, featureNumbered, immOf, misextends, xsOf};
+ghost use Rattle.encoding.specs.Encoding.{encodeOf, featureNumbered, immOf, misextends, rowOf, xsOf};
+ghost use Rattle.encoding.specs.Layouts.{layoutOf, Bounded};
 use table::CLASSES;
 use table::base_of;
 use table::index_of;
@@ -332,4 +333,13 @@ pub fn feature_of(class: u8) -> u32
     }
     let layout = layout_of(k);
     layout.feature
+}
+
+// The layout of the class of a store with this number, whose case is that of this feature.
+pub fn layout_for(class: u8, feature: u32) -> Layout
+    requires { ⌜ rowOf class feature < 12 ⌝ }
+    ensures is { λ r. ⌜ r ≡ layoutOf (classAt (rowOf class feature)) ⌝ }
+    ensures bounded { λ r. ⌜ Bounded r ⌝ }
+{
+    layout_of(row_of(class, feature))
 }

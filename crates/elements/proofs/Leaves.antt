@@ -1,0 +1,111 @@
+-- What the functions on single elements answer. Assumes nothing.
+use mathlib.Core.Path.{_≡_, refl, sym, ap, ap₂, _∙_, subst}
+use mathlib.Core.Bool.{Bool, true, false, not, cond, _&&_}
+use mathlib.Core.List.{List}
+use Prim.Native.Nat.{ℕ, _+_, _-_, _*_, _/_, _%_, _^_, _≤_, _<_}
+use native.Mathlib.Nat.{div-add-mod', div-mul-le-self, mod-eq-of-lt, add-sub-cancel-left}
+use native.Mathlib.Omega.{arith}
+use lib.Dec.{eqb, ltb, leb}
+use lib.ListN.{getD, take, drop}
+use borrow.Author.Tests.{eq-eqb, ne-eqb, lt-ltb, le-ltb}
+use Rattle.writes.specs.LittleEndian.{leVal}
+use Rattle.elements.specs.Machine.{bitAt}
+use Rattle.elements.specs.Counter.{lowestSet, unitOf, countIn, maskBit}
+use Rattle.elements.specs.Stores.{signed32}
+
+pub bit-is : (s : List ℕ) (i b : ℕ) → b ≡ getD s (i / 8) 0 → eqb (b / 2 ^ (i % 8) % 2) 1 ≡ bitAt s i
+unfolding bitAt
+bit-is s i b e = ap (λ (n : ℕ). eqb (n / 2 ^ (i % 8) % 2) 1) e
+
+pub general-last : (x n l : ℕ) → n ≡ 31 → l ≡ cond (eqb n 31) l x
+general-last x n l e = sym (ap (λ (b : Bool). cond b l x) (eq-eqb n 31 e))
+
+pub general-own : (x n l : ℕ) → (n ≡ 31 → ⊥) → x ≡ cond (eqb n 31) l x
+general-own x n l f = sym (ap (λ (b : Bool). cond b l x) (ne-eqb n 31 f))
+
+pub register-is : (s : List ℕ) (at n : ℕ) → take (at + n - at) (drop at s) ≡ take n (drop at s)
+register-is s at n = ap (λ (k : ℕ). take k (drop at s)) (add-sub-cancel-left at n)
+
+pub signed-low : (x : ℕ) → x < 2 ^ 31 → x ≡ signed32 x
+signed-low x h = sym (ap (λ (b : Bool). cond b x (x + (2 ^ 64 - 2 ^ 32))) (lt-ltb x (2 ^ 31) h))
+
+pub signed-high : (x : ℕ) → 2 ^ 31 ≤ x → x + (2 ^ 64 - 2 ^ 32) ≡ signed32 x
+signed-high x h = sym (ap (λ (b : Bool). cond b x (x + (2 ^ 64 - 2 ^ 32))) (le-ltb x (2 ^ 31) h))
+
+-- ---- counters
+
+module _ (v : ℕ) where
+  pub lowest-0 : v % 2 ≡ 1 → 0 ≡ lowestSet v
+  unfolding lowestSet
+  lowest-0 e = sym (ap (λ (b : Bool). cond b 0 (cond (eqb (v % 4) 2) 1 (cond (eqb (v % 8) 4) 2 3))) (eq-eqb (v % 2) 1 e))
+
+  module _ (f : v % 2 ≡ 1 → ⊥) where
+    past-0 : lowestSet v ≡ cond (eqb (v % 4) 2) 1 (cond (eqb (v % 8) 4) 2 3)
+    unfolding lowestSet
+    past-0 = ap (λ (b : Bool). cond b 0 (cond (eqb (v % 4) 2) 1 (cond (eqb (v % 8) 4) 2 3))) (ne-eqb (v % 2) 1 f)
+
+    pub lowest-1 : v % 4 ≡ 2 → 1 ≡ lowestSet v
+    lowest-1 e = sym (past-0 ∙ ap (λ (b : Bool). cond b 1 (cond (eqb (v % 8) 4) 2 3)) (eq-eqb (v % 4) 2 e))
+
+    module _ (g : v % 4 ≡ 2 → ⊥) where
+      past-1 : lowestSet v ≡ cond (eqb (v % 8) 4) 2 3
+      past-1 = past-0 ∙ ap (λ (b : Bool). cond b 1 (cond (eqb (v % 8) 4) 2 3)) (ne-eqb (v % 4) 2 g)
+
+      pub lowest-2 : v % 8 ≡ 4 → 2 ≡ lowestSet v
+      lowest-2 e = sym (past-1 ∙ ap (λ (b : Bool). cond b 2 3) (eq-eqb (v % 8) 4 e))
+
+      pub lowest-3 : (v % 8 ≡ 4 → ⊥) → 3 ≡ lowestSet v
+      lowest-3 h = sym (past-1 ∙ ap (λ (b : Bool). cond b 2 3) (ne-eqb (v % 8) 4 h))
+
+pub counted-is : (v s : ℕ) → s ≡ lowestSet v → v % 32768 / 2 ^ (s + 1) ≡ countIn v
+unfolding countIn
+counted-is v s e = ap (λ (k : ℕ). v % 32768 / 2 ^ (k + 1)) e
+
+-- bit i of the mask: in a counter that counts, at a multiple of its unit, below or from its count on
+module _ (v i s n : ℕ) (e : s ≡ lowestSet v) (q : n ≡ countIn v) (h : i < 65536) where
+  in-mask : Bool
+  in-mask = cond (ltb v (2 ^ 15)) (ltb (i / unitOf v) (countIn v)) (leb (countIn v) (i / unitOf v))
+
+  pub mask-empty : v % 16 ≡ 0 → false ≡ maskBit v i
+  unfolding maskBit in-mask
+  mask-empty z = sym (ap (λ (b : Bool). not b && (eqb (i % unitOf v) 0 && in-mask)) (eq-eqb (v % 16) 0 z))
+
+  module _ (f : v % 16 ≡ 0 → ⊥) where
+    counting : maskBit v i ≡ eqb (i % unitOf v) 0 && in-mask
+    unfolding maskBit in-mask
+    counting = ap (λ (b : Bool). not b && (eqb (i % unitOf v) 0 && in-mask)) (ne-eqb (v % 16) 0 f)
+
+    multiple : ℕ
+    multiple = i / 2 ^ s * 2 ^ s
+
+    small : i / 2 ^ s * 2 ^ s < 2 ^ 64
+    small = omega (arith, div-mul-le-self i (2 ^ s))
+
+    same-unit : 2 ^ s ≡ unitOf v
+    same-unit = ap (λ (k : ℕ). 2 ^ k) e
+
+    pub mask-between : ((i / 2 ^ s * 2 ^ s) % 2 ^ 64 ≡ i → ⊥) → false ≡ maskBit v i
+    mask-between g =
+        let no : i % unitOf v ≡ 0 → ⊥ =
+            λ z. g (mod-eq-of-lt small ∙ omega (arith, div-add-mod' i (2 ^ s), ap (λ (u : ℕ). i % u) same-unit ∙ z)) in
+        sym (counting ∙ ap (λ (b : Bool). b && in-mask) (ne-eqb (i % unitOf v) 0 no))
+
+    module _ (g : (i / 2 ^ s * 2 ^ s) % 2 ^ 64 ≡ i) where
+      aligned : maskBit v i ≡ in-mask
+      aligned =
+          let z : i % 2 ^ s ≡ 0 = omega (arith, div-add-mod' i (2 ^ s), sym (mod-eq-of-lt small) ∙ g) in
+          counting ∙ ap (λ (b : Bool). b && in-mask) (eq-eqb (i % unitOf v) 0 (ap (λ (u : ℕ). i % u) (sym same-unit) ∙ z))
+
+      pub mask-below : v < 2 ^ 15 → ltb (i / 2 ^ s) n ≡ maskBit v i
+      unfolding in-mask
+      mask-below l =
+          ap₂ (λ (u c : ℕ). ltb (i / u) c) same-unit q
+          ∙ sym (ap (λ (b : Bool). cond b (ltb (i / unitOf v) (countIn v)) (leb (countIn v) (i / unitOf v))) (lt-ltb v (2 ^ 15) l))
+          ∙ sym aligned
+
+      pub mask-from : 2 ^ 15 ≤ v → leb n (i / 2 ^ s) ≡ maskBit v i
+      unfolding in-mask
+      mask-from l =
+          ap₂ (λ (u c : ℕ). leb c (i / u)) same-unit q
+          ∙ sym (ap (λ (b : Bool). cond b (ltb (i / unitOf v) (countIn v)) (leb (countIn v) (i / unitOf v))) (le-ltb v (2 ^ 15) l))
+          ∙ sym aligned

@@ -1,0 +1,103 @@
+-- A store's numbers, decided once before its elements are walked. For the contracts of the code's own functions. Assumes nothing.
+use Prim.Native.Nat.{ℕ, _+_, _*_, _/_, _%_, _^_, _≤_, _<_}
+use mathlib.Core.Bool.{Bool, cond}
+use mathlib.Core.List.{List, [], _∷_}
+use lib.IntN.{ℤ, pos, _*ℤ_}
+use lib.ListN.{length, take, drop}
+use mir.Syntax.{w64}
+use mir.Val.{ofZ}
+use Rattle.encoding.specs.Classes.{Rm, Class, has}
+use Rattle.encoding.specs.declared.Extension.{Extension}
+use Rattle.encoding.specs.declared.Extension.the-variants.{None, Uxtw, Sxtw}
+use Rattle.encoding.specs.declared.ScatterFields.{ScatterFields}
+use Rattle.encoding.specs.declared.StridedFields.{StridedFields}
+use Rattle.encoding.specs.declared.QuadwordFields.{QuadwordFields}
+use Rattle.writes.specs.LittleEndian.{leVal}
+use Rattle.writes.specs.Elements.{Element}
+use Rattle.elements.specs.Machine.{Machine, baseOf, indexOf, register, predicate, bitAt}
+use Rattle.elements.specs.Counter.{lowestSet, countIn, maskBit}
+use Rattle.elements.specs.Stores.{stepOf, sizeOf, perRegister, signed32, strideOf, startOf}
+use Rattle.elements.specs.Elements.{actives}
+use Rattle.elements.specs.declared.VectorPlan.{VectorPlan}
+use Rattle.elements.specs.declared.StridedPlan.{StridedPlan}
+
+-- ---- scatter and quadword stores: an offset in each element of a vector register
+
+-- the offset whose element starts at byte `at` of its register
+abbrev pub offsetFrom : Extension → List ℕ → ℕ → ℕ
+offsetFrom None reg at = leVal (take 8 (drop at reg))
+offsetFrom Uxtw reg at = leVal (take 4 (drop at reg))
+offsetFrom Sxtw reg at = signed32 (leVal (take 4 (drop at reg)))
+
+abbrev pub offsetBytes : Extension → ℕ
+offsetBytes None = 8
+offsetBytes Uxtw = 4
+offsetBytes Sxtw = 4
+
+unfoldable pub vectorAddress : VectorPlan → List ℕ → ℕ → ℕ
+vectorAddress v offsets e = (v .base + offsetFrom (v .extension) offsets (e * v .step) * 2 ^ v .scale) % 2 ^ 64
+
+unfoldable pub vectorActive : VectorPlan → List ℕ → ℕ → Bool
+vectorActive v governing e = bitAt governing (e * v .step)
+
+unfoldable pub vectorElement : VectorPlan → List ℕ → List ℕ → ℕ → Element
+vectorElement v offsets stored e = record { number = e; address = vectorAddress v offsets e; bytes = take (v .size) (drop (e * v .step) stored) }
+
+abbrev pub scatterPlan : Machine → Class → ScatterFields → VectorPlan
+scatterPlan m c f =
+    record {
+      base = baseOf m (f .rn);
+      extension = f .extension;
+      scale = c .scale;
+      step = stepOf c;
+      size = sizeOf c;
+      count = perRegister m c;
+      offsets = f .zm;
+      governing = f .pg;
+      stored = f .zt;
+    }
+
+abbrev pub quadwordPlan : Machine → Class → QuadwordFields → VectorPlan
+quadwordPlan m c f =
+    record {
+      base = indexOf m (f .rm);
+      extension = None;
+      scale = 0;
+      step = stepOf c;
+      size = sizeOf c;
+      count = perRegister m c;
+      offsets = f .zn;
+      governing = f .pg;
+      stored = f .zt;
+    }
+
+-- ---- strided stores
+
+unfoldable pub stridedAddress : StridedPlan → ℕ → ℕ
+stridedAddress s e = (s .start + e * s .step) % 2 ^ 64
+
+unfoldable pub stridedActive : StridedPlan → ℕ → Bool
+stridedActive s e = maskBit (s .counter) (e * s .step)
+
+unfoldable pub stridedElement : StridedPlan → ℕ → List ℕ → ℕ → Element
+stridedElement s vb z e =
+    record {
+      number = e;
+      address = stridedAddress s e;
+      bytes = take (s .size) (drop (e % s .per * s .step) (register vb z (s .first + e / s .per * s .stride)));
+    }
+
+abbrev pub stridedPlan : Machine → Class → StridedFields → StridedPlan
+stridedPlan m c f =
+    record {
+      start = startOf m c (f .rn) (f .rm) (f .multiple) % 2 ^ 64;
+      counter = leVal (take 2 (predicate m (8 + f .pc)));
+      shift = lowestSet (leVal (take 2 (predicate m (8 + f .pc))));
+      counted = countIn (leVal (take 2 (predicate m (8 + f .pc))));
+      step = stepOf c;
+      size = sizeOf c;
+      per = perRegister m c;
+      nreg = c .nreg;
+      first = f .first;
+      stride = strideOf c;
+    }
