@@ -87,7 +87,7 @@ module _ (v i s n : ℕ) (e : s ≡ lowestSet v) (q : n ≡ countIn v) (h : i < 
     pub mask-between : ((i / 2 ^ s * 2 ^ s) % 2 ^ 64 ≡ i → ⊥) → false ≡ maskBit v i
     mask-between g =
         let no : i % unitOf v ≡ 0 → ⊥ =
-            λ z. g (mod-eq-of-lt small ∙ omega (arith, div-add-mod' i (2 ^ s), ap (λ (u : ℕ). i % u) same-unit ∙ z)) in
+        λ z. g (mod-eq-of-lt small ∙ omega (arith, div-add-mod' i (2 ^ s), ap (λ (u : ℕ). i % u) same-unit ∙ z)) in
         sym (counting ∙ ap (λ (b : Bool). b && in-mask) (ne-eqb (i % unitOf v) 0 no))
 
     module _ (g : (i / 2 ^ s * 2 ^ s) % 2 ^ 64 ≡ i) where

@@ -1,1 +1,4 @@
 pub mod Leaves
+pub mod Shapes
+pub mod Bits
+pub mod Planning

@@ -1,16 +1,25 @@
 // The elements of a store on a lent machine. A store's numbers are decided once, in a plan; its elements are then read by number.
 ghost use mathlib.Core.Path.{_≡_};
-ghost use mathlib.Core.Bool.{cond};
+ghost use mathlib.Core.Bool.{false, cond};
 ghost use mathlib.Core.List.{[]};
 ghost use Prim.Native.Nat.{_+_, _*_, _/_, _%_, _^_, _≤_, _<_};
 ghost use lib.Dec.{eqb};
-ghost use lib.ListN.{length, take, drop, getD};
-ghost use Rattle.writes.specs.LittleEndian.{leVal};
-ghost use Rattle.elements.specs.Machine.{register, bitAt};
-ghost use Rattle.elements.specs.Counter.{lowestSet, countIn, maskBit};
-ghost use Rattle.elements.specs.Stores.{signed32};
-ghost use Rattle.elements.specs.Plans.{offsetBytes, offsetFrom, vectorAddress, vectorActive, stridedAddress, stridedActive};
+ghost use lib.IntN.{pos, natAbs, _*ℤ_};
+ghost use lib.ListN.{length, getD};
+ghost use mir.Syntax.{w64};
+ghost use mir.Val.{ofZ};
+ghost use Rattle.encoding.specs.Encoding.{classFor, refused};
+ghost use Rattle.encoding.specs.Layouts.{layoutOf};
+ghost use Rattle.elements.specs.Machine.{machine, register, bitAt};
+ghost use Rattle.elements.specs.Counter.{lowestSet, countIn};
+ghost use Rattle.elements.specs.Stores.{signed32, startOf};
+ghost use Rattle.elements.specs.Plans.{offsetBytes, offsetFrom, vectorAddress, vectorActive, stridedAddress, stridedActive, scatterPlan, quadwordPlan, stridedPlan};
 use encoding::Extension;
+use encoding::Layout;
+use encoding::QuadwordFields;
+use encoding::ScatterFields;
+use encoding::Store;
+use encoding::StridedFields;
 
 // A scatter or quadword store: base and offset of each address, bytes from element to element, bytes to move, the elements' number,
 // and the registers with the offsets, the predicate and the data.
@@ -173,4 +182,115 @@ pub fn strided_address(s: StridedPlan, e: usize) -> u64
     ensures { λ r. ⌜ r ≡ stridedAddress s e ⌝ }
 {
     std::num::wrapping_add_u64(s.start, (e * s.step) as u64)
+}
+
+// The 64 bits of a signed number.
+pub fn bits_of(z: i64) -> u64
+    ensures { λ r. ⌜ r ≡ ofZ w64 z ⌝ }
+{
+    if 0 <= z {
+        z as u64
+    } else {
+        u64::MAX - (!z) as u64
+    }
+}
+
+// base + z * unit, modulo 2^64.
+pub fn displaced(base: u64, z: i64, unit: usize) -> u64
+    requires { ⌜ (natAbs z ≤ 64) × (unit ≤ 256) ⌝ }
+    ensures { λ r. ⌜ r ≡ (base + ofZ w64 (z *ℤ pos unit)) % 2 ^ 64 ⌝ }
+{
+    let d = z * unit as i64;
+    std::num::wrapping_add_u64(base, bits_of(d))
+}
+
+pub fn scatter_plan(f: ScatterFields, vb: usize, x: &[u64; 31], sp: u64) -> VectorPlan
+    requires { ⌜ (refused (Store.Scatter f) ≡ false) × (vb ≤ 256) ⌝ }
+    ensures { λ r. ⌜ r ≡ scatterPlan (machine vb (now (x .entry)) sp [] []) (classFor (Store.Scatter f)) f ⌝ }
+{
+    let layout = encoding::layout_for(f.class, 0);
+    let base = general(x, sp, f.rn);
+    let extension = f.extension;
+    let step = layout.step as usize;
+    VectorPlan {
+        base,
+        extension,
+        scale: layout.scale,
+        step,
+        size: layout.size as usize,
+        count: vb / step,
+        offsets: f.zm as usize,
+        governing: f.pg as usize,
+        stored: f.zt as usize,
+    }
+}
+
+pub fn quadword_plan(f: QuadwordFields, vb: usize, x: &[u64; 31]) -> VectorPlan
+    requires { ⌜ (refused (Store.Quadword f) ≡ false) × (vb ≤ 256) ⌝ }
+    ensures { λ r. ⌜ r ≡ quadwordPlan (machine vb (now (x .entry)) 0 [] []) (classFor (Store.Quadword f)) f ⌝ }
+{
+    let layout = encoding::layout_for(f.class, 2);
+    let base = general(x, 0, f.rm);
+    let step = layout.step as usize;
+    VectorPlan {
+        base,
+        extension: Extension::None,
+        scale: 0,
+        step,
+        size: layout.size as usize,
+        count: vb / step,
+        offsets: f.zn as usize,
+        governing: f.pg as usize,
+        stored: f.zt as usize,
+    }
+}
+
+// The first address of a strided store.
+fn start_of(f: StridedFields, layout: Layout, vb: usize, x: &[u64; 31], sp: u64) -> u64
+    requires { ⌜ (refused (Store.Strided f) ≡ false) × (vb ≤ 256) ⌝ }
+    requires { ⌜ layout ≡ layoutOf (classFor (Store.Strided f)) ⌝ }
+    ensures { λ r. ⌜ r ≡ startOf (machine vb (now (x .entry)) sp [] []) (classFor (Store.Strided f)) (f .rn) (f .rm) (f .multiple) % 2 ^ 64 ⌝ }
+{
+    let base = general(x, sp, f.rn);
+    if layout.rm == 1 {
+        return displaced(base, f.multiple, vb);
+    }
+    let index = general(x, 0, f.rm);
+    std::num::wrapping_add_u64(base, scaled(index, layout.scale))
+}
+
+// From one register of a strided store to the next: 8 for two, 4 for four.
+fn stride_of(nreg: u32) -> usize
+    ensures { λ r. ⌜ r ≡ cond (eqb nreg 2) 8 4 ⌝ }
+{
+    if nreg == 2 {
+        return 8;
+    }
+    4
+}
+
+pub fn strided_plan(f: StridedFields, vb: usize, x: &[u64; 31], sp: u64, p: &[u8]) -> StridedPlan
+    requires { ⌜ refused (Store.Strided f) ≡ false ⌝ }
+    requires { ⌜ (16 ≤ vb) × (vb ≤ 256) × (length (now p) ≡ 2 * vb) ⌝ }
+    ensures { λ r. ⌜ r ≡ stridedPlan (machine vb (now (x .entry)) sp [] (now (p .entry))) (classFor (Store.Strided f)) f ⌝ }
+{
+    let layout = encoding::layout_for(f.class, 1);
+    let start = start_of(f, layout, vb, x, sp);
+    let counter = writes::le16(register_of(p, vb / 8, 8 + f.pc as usize), 0);
+    let shift = lowest_set(counter);
+    let counted = counted(counter, shift);
+    let step = layout.step as usize;
+    let stride = stride_of(layout.nreg);
+    StridedPlan {
+        start,
+        counter,
+        shift,
+        counted,
+        step,
+        size: layout.size as usize,
+        per: vb / step,
+        nreg: layout.nreg as usize,
+        first: f.first as usize,
+        stride,
+    }
 }

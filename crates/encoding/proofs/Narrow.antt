@@ -36,7 +36,7 @@ size-small C.T = lit≤ tt
 size-small Zt3 = lit≤ tt
 size-small Zt2 = lit≤ tt
 
-width-small : (c : Class) (f : Field) → 2 ^ width c f ≤ 32
+pub width-small : (c : Class) (f : Field) → 2 ^ width c f ≤ 32
 width-small c f = go (has c f)
   where
     go : (b : Bool) → 2 ^ cond b (size f) 0 ≤ 32

@@ -140,19 +140,31 @@ encodes-decoded w s h e =
     ap encodeOf (sym (t .1))
     ∙ sym (encode-yes u k r l true w (sym (yes (fits c u) (store-fits c (small-at k l) w x (λ q. striding k l q)))) refl v)
 
--- a store with a word is of a class in the list, and fits it
+-- ---- stores that encode
+
+first-false : (a b c d f : Bool) → a || b || c || d || f ≡ false → a ≡ false
+first-false true b c d f h = h
+first-false false b c d f h = refl
+
+-- a store that isn't refused is of a class in the list, and fits it
+pub accepted : (s : Store) → refused s ≡ false → (rowFor s < length classes) × T (fits (classFor s) s)
+unfolding refused
+accepted s e =
+    let l : rowFor s < length classes = leb-false (length classes) (rowFor s) (first-false (notListed s) _ _ _ _ e) in
+    (l, holds (not-false (fits (classFor s) s) (sym (refused-is s (rowFor s) refl l) ∙ e)))
+
 pub encoded-fits : (s : Store) (w : ℕ) → encodeOf s ≡ Word w
     → (rowFor s < length classes) × T (fits (classFor s) s) × (classFor s .base + placed (valuesIn (classFor s) s) ≡ w)
-unfolding encodeOf refused
+unfolding encodeOf
 encoded-fits s w e =
-    let c = classFor s in
-    let t = word-told (refused s) (c .base + placed (valuesIn c s)) w e in
-    let l : rowFor s < length classes = leb-false (length classes) (rowFor s) (first (notListed s) _ _ _ _ (t .0)) in
-    (l, holds (not-false (fits c s) (sym (refused-is s (rowFor s) refl l) ∙ t .0)), t .1)
-  where
-    first : (a b c d f : Bool) → a || b || c || d || f ≡ false → a ≡ false
-    first true b c d f h = h
-    first false b c d f h = refl
+    let t = word-told (refused s) (classFor s .base + placed (valuesIn (classFor s) s)) w e in
+    let a = accepted s (t .0) in
+    (a .0, a .1, t .1)
+
+-- a decoded store isn't refused
+pub decoded-accepted : (w : ℕ) (s : Store) → w < 2 ^ 32 → decodeOf w ≡ Known s → refused s ≡ false
+unfolding encodeOf
+decoded-accepted w s h e = word-told (refused s) (classFor s .base + placed (valuesIn (classFor s) s)) w (encodes-decoded w s h e) .0
 
 pub decodes-encoded : DecodesEncoded
 unfolding storeOf

@@ -1,0 +1,101 @@
+-- A store's plan has the numbers of the definitions. Assumes nothing.
+use mathlib.Core.Path.{_≡_, refl, sym, ap, ap₂, _∙_, subst}
+use mathlib.Core.Bool.{Bool, true, false, cond}
+use mathlib.Core.List.{List, []}
+use Prim.Native.Nat.{ℕ, suc, _+_, _*_, _/_, _%_, _^_, _≤_, _<_}
+use native.Mathlib.Nat.{mul-div-mul-right, mul-le-mul-right}
+use native.Mathlib.Omega.{arith}
+use lib.Dec.{eqb}
+use lib.IntN.{ℤ, pos, _*ℤ_}
+use lib.ListN.{length, getD, take, drop, length-take, length-drop}
+use mir.Syntax.{w64}
+use mir.Val.{ofZ}
+use Rattle.encoding.specs.Classes.{Rm, Class, has, width}
+use Rattle.encoding.specs.Encoding.{classFor}
+use Rattle.encoding.specs.Layouts.{layoutOf}
+use Rattle.encoding.specs.declared.Extension.the-variants.{None}
+use Rattle.encoding.specs.declared.Layout.{Layout}
+use Rattle.encoding.specs.declared.ScatterFields.{ScatterFields}
+use Rattle.encoding.specs.declared.StridedFields.{StridedFields}
+use Rattle.encoding.specs.declared.QuadwordFields.{QuadwordFields}
+use Rattle.writes.specs.LittleEndian.{leVal}
+use Rattle.elements.specs.Machine.{Machine, machine, baseOf, indexOf, register, predicate}
+use Rattle.elements.specs.Counter.{lowestSet, countIn}
+use Rattle.elements.specs.Stores.{stepOf, sizeOf, perRegister, startOf, strideOf}
+use Rattle.elements.specs.Plans.{scatterPlan, quadwordPlan, stridedPlan}
+use Rattle.elements.specs.declared.VectorPlan.{VectorPlan}
+use Rattle.elements.specs.declared.StridedPlan.{StridedPlan}
+
+-- VB·8/esize elements are VB over the bytes of one
+per-is : (vb : ℕ) (c : Class) → c .esize / 8 * 8 ≡ c .esize → vb / stepOf c ≡ vb * 8 / c .esize
+per-is vb c e = sym (mul-div-mul-right vb (stepOf c) (omega arith)) ∙ ap (λ (n : ℕ). vb * 8 / n) e
+
+module _ (vb : ℕ) (x : List ℕ) (c : Class) (l : Layout) (e : l ≡ layoutOf c) (w : c .esize / 8 * 8 ≡ c .esize) where
+  pers : vb / l .step ≡ vb * 8 / c .esize
+  pers = ap (λ (y : Layout). vb / y .step) e ∙ per-is vb c w
+
+  pub scatter-planned : (sp b : ℕ) (f : ScatterFields) → b ≡ cond (eqb (f .rn) 31) sp (getD x (f .rn) 0)
+      → _≡_ {A = VectorPlan}
+        (record { base = b; extension = f .extension; scale = l .scale; step = l .step; size = l .size; count = vb / l .step; offsets = f .zm; governing = f .pg; stored = f .zt })
+        (scatterPlan (machine vb x sp [] []) c f)
+  scatter-planned sp b f q =
+      λ i. record { base = q i; extension = f .extension; scale = e i .scale; step = e i .step; size = e i .size; count = pers i; offsets = f .zm; governing = f .pg; stored = f .zt }
+
+  pub quadword-planned : (b : ℕ) (f : QuadwordFields) → b ≡ cond (eqb (f .rm) 31) 0 (getD x (f .rm) 0)
+      → _≡_ {A = VectorPlan}
+        (record { base = b; extension = None; scale = 0; step = l .step; size = l .size; count = vb / l .step; offsets = f .zn; governing = f .pg; stored = f .zt })
+        (quadwordPlan (machine vb x 0 [] []) c f)
+  quadword-planned b f q =
+      λ i. record { base = q i; extension = None; scale = 0; step = e i .step; size = e i .size; count = pers i; offsets = f .zn; governing = f .pg; stored = f .zt }
+
+  pub strided-planned : (sp a v s n d : ℕ) (p : List ℕ) (f : StridedFields)
+      → a ≡ startOf (machine vb x sp [] []) c (f .rn) (f .rm) (f .multiple) % 2 ^ 64
+      → v ≡ leVal (take 2 (register (vb / 8) p (8 + f .pc))) → s ≡ lowestSet v → n ≡ countIn v → d ≡ cond (eqb (l .nreg) 2) 8 4
+      → _≡_ {A = StridedPlan}
+        (record { start = a; counter = v; shift = s; counted = n; step = l .step; size = l .size; per = vb / l .step; nreg = l .nreg; first = f .first; stride = d })
+        (stridedPlan (machine vb x sp [] p) c f)
+  strided-planned sp a v s n d p f qa qv qs qn qd =
+      let s′ = qs ∙ ap lowestSet qv in
+      let n′ = qn ∙ ap countIn qv in
+      let d′ = qd ∙ ap (λ (y : Layout). cond (eqb (y .nreg) 2) 8 4) e in
+      λ i. record { start = qa i; counter = qv i; shift = s′ i; counted = n′ i; step = e i .step; size = e i .size; per = pers i; nreg = e i .nreg; first = f .first; stride = d′ i }
+
+-- ---- a strided store's first address
+
+-- a class has Rm where Rm has more values than one
+has-rm : (c : Class) → (2 ^ width c Rm ≡ 1 → ⊥) → has c Rm ≡ true
+has-rm c = go (has c Rm)
+  where
+    go : (b : Bool) → (2 ^ cond b 5 0 ≡ 1 → ⊥) → b ≡ true
+    go true f = refl
+    go false f = absurd (f refl)
+
+lacks-rm : (c : Class) → 2 ^ width c Rm ≡ 1 → has c Rm ≡ false
+lacks-rm c = go (has c Rm)
+  where
+    go : (b : Bool) → 2 ^ cond b 5 0 ≡ 1 → b ≡ false
+    go true e = absurd (omega arith)
+    go false e = refl
+
+module _ (m : Machine) (c : Class) (l : Layout) (e : l ≡ layoutOf c) (rn rm : ℕ) (z : ℤ) where
+  pub start-displaced : (b : ℕ) → b ≡ baseOf m rn → l .rm ≡ 1 → (b + ofZ w64 (z *ℤ pos (m .vb))) % 2 ^ 64 ≡ startOf m c rn rm z % 2 ^ 64
+  start-displaced b q h =
+      ap₂ (λ (y : ℕ) (t : Bool). (y + cond t (indexOf m rm * 2 ^ c .scale) (ofZ w64 (z *ℤ pos (m .vb)))) % 2 ^ 64) q
+      (sym (lacks-rm c (sym (ap (λ (y : Layout). y .rm) e) ∙ h)))
+
+  pub start-indexed : (b i s : ℕ) → b ≡ baseOf m rn → i ≡ indexOf m rm → s ≡ (i * 2 ^ l .scale) % 2 ^ 64 → (l .rm ≡ 1 → ⊥)
+      → (b + s) % 2 ^ 64 ≡ startOf m c rn rm z % 2 ^ 64
+  start-indexed b i s q r t h =
+      let u : (b + s) % 2 ^ 64 ≡ (b + i * 2 ^ l .scale) % 2 ^ 64 = omega arith in
+      u
+      ∙ ap₂ (λ (y n : ℕ). (y + n) % 2 ^ 64) q (ap₂ (λ (n : ℕ) (y : Layout). n * 2 ^ y .scale) r e)
+      ∙ ap (λ (t : Bool). (baseOf m rn + cond t (indexOf m rm * 2 ^ c .scale) (ofZ w64 (z *ℤ pos (m .vb)))) % 2 ^ 64)
+      (sym (has-rm c (λ o. h (ap (λ (y : Layout). y .rm) e ∙ o))))
+
+-- ---- registers lie in their buffer
+
+pub register-in : (n r k s : ℕ) → r < k → s ≡ k * n → r * n + n ≤ s
+register-in n r k s h e = omega (arith, mul-le-mul-right n h)
+
+pub register-long : (n r : ℕ) (s : List ℕ) → r * n + n ≤ length s → length (register n s r) ≡ n
+register-long n r s h = omega (arith, length-take n (drop (r * n) s), length-drop (r * n) s)
