@@ -2,3 +2,4 @@ pub mod Leaves
 pub mod Shapes
 pub mod Bits
 pub mod Planning
+pub mod Listing

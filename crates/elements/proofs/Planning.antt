@@ -36,15 +36,15 @@ module _ (vb : ℕ) (x : List ℕ) (c : Class) (l : Layout) (e : l ≡ layoutOf 
 
   pub scatter-planned : (sp b : ℕ) (f : ScatterFields) → b ≡ cond (eqb (f .rn) 31) sp (getD x (f .rn) 0)
       → _≡_ {A = VectorPlan}
-        (record { base = b; extension = f .extension; scale = l .scale; step = l .step; size = l .size; count = vb / l .step; offsets = f .zm; governing = f .pg; stored = f .zt })
-        (scatterPlan (machine vb x sp [] []) c f)
+      (record { base = b; extension = f .extension; scale = l .scale; step = l .step; size = l .size; count = vb / l .step; offsets = f .zm; governing = f .pg; stored = f .zt })
+      (scatterPlan (machine vb x sp [] []) c f)
   scatter-planned sp b f q =
       λ i. record { base = q i; extension = f .extension; scale = e i .scale; step = e i .step; size = e i .size; count = pers i; offsets = f .zm; governing = f .pg; stored = f .zt }
 
   pub quadword-planned : (b : ℕ) (f : QuadwordFields) → b ≡ cond (eqb (f .rm) 31) 0 (getD x (f .rm) 0)
       → _≡_ {A = VectorPlan}
-        (record { base = b; extension = None; scale = 0; step = l .step; size = l .size; count = vb / l .step; offsets = f .zn; governing = f .pg; stored = f .zt })
-        (quadwordPlan (machine vb x 0 [] []) c f)
+      (record { base = b; extension = None; scale = 0; step = l .step; size = l .size; count = vb / l .step; offsets = f .zn; governing = f .pg; stored = f .zt })
+      (quadwordPlan (machine vb x 0 [] []) c f)
   quadword-planned b f q =
       λ i. record { base = q i; extension = None; scale = 0; step = e i .step; size = e i .size; count = pers i; offsets = f .zn; governing = f .pg; stored = f .zt }
 
@@ -52,8 +52,8 @@ module _ (vb : ℕ) (x : List ℕ) (c : Class) (l : Layout) (e : l ≡ layoutOf 
       → a ≡ startOf (machine vb x sp [] []) c (f .rn) (f .rm) (f .multiple) % 2 ^ 64
       → v ≡ leVal (take 2 (register (vb / 8) p (8 + f .pc))) → s ≡ lowestSet v → n ≡ countIn v → d ≡ cond (eqb (l .nreg) 2) 8 4
       → _≡_ {A = StridedPlan}
-        (record { start = a; counter = v; shift = s; counted = n; step = l .step; size = l .size; per = vb / l .step; nreg = l .nreg; first = f .first; stride = d })
-        (stridedPlan (machine vb x sp [] p) c f)
+      (record { start = a; counter = v; shift = s; counted = n; step = l .step; size = l .size; per = vb / l .step; nreg = l .nreg; first = f .first; stride = d })
+      (stridedPlan (machine vb x sp [] p) c f)
   strided-planned sp a v s n d p f qa qv qs qn qd =
       let s′ = qs ∙ ap lowestSet qv in
       let n′ = qn ∙ ap countIn qv in

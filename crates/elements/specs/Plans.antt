@@ -1,6 +1,7 @@
 -- A store's numbers, decided once before its elements are walked. For the contracts of the code's own functions. Assumes nothing.
-use Prim.Native.Nat.{ℕ, _+_, _*_, _/_, _%_, _^_, _≤_, _<_}
+use Prim.Native.Nat.{ℕ, _+_, _-_, _*_, _/_, _%_, _^_, _≤_, _<_}
 use mathlib.Core.Bool.{Bool, cond}
+use mathlib.Core.Path.{_≡_}
 use mathlib.Core.List.{List, [], _∷_}
 use lib.IntN.{ℤ, pos, _*ℤ_}
 use lib.ListN.{length, take, drop}
@@ -101,3 +102,37 @@ stridedPlan m c f =
       first = f .first;
       stride = strideOf c;
     }
+
+-- ---- the active elements of a plan
+
+unfoldable pub vectorElements : VectorPlan → List ℕ → List ℕ → List ℕ → List Element
+vectorElements v offsets governing stored = actives (vectorActive v governing) (vectorElement v offsets stored) (v .count) 0
+
+unfoldable pub stridedElements : StridedPlan → ℕ → List ℕ → List Element
+stridedElements s vb z = actives (stridedActive s) (stridedElement s vb z) (s .nreg * s .per) 0
+
+-- what holds of a plan on a machine with registers of vb bytes
+pub record VectorSound (v : VectorPlan) (vb : ℕ) : Type 0 where
+  pub scale : v .scale < 64
+  pub offset : offsetBytes (v .extension) ≤ v .step
+  pub some : 0 < v .size
+  pub size : v .size ≤ v .step
+  pub whole : v .count * v .step ≤ vb
+  pub low : 16 ≤ vb
+  pub high : vb ≤ 256
+  pub eighth : vb % 8 ≡ 0
+  pub offsets : v .offsets < 32
+  pub governing : v .governing < 16
+  pub stored : v .stored < 32
+
+pub record StridedSound (s : StridedPlan) (vb : ℕ) : Type 0 where
+  pub shift : s .shift ≡ lowestSet (s .counter)
+  pub counted : s .counted ≡ countIn (s .counter)
+  pub four : s .shift < 4
+  pub some : 0 < s .size
+  pub size : s .size ≤ s .step
+  pub whole : s .per * s .step ≤ vb
+  pub per : 0 < s .per
+  pub nreg : s .nreg ≤ 4
+  pub high : vb ≤ 256
+  pub last : s .first + (s .nreg - 1) * s .stride < 32

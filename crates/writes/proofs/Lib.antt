@@ -6,3 +6,4 @@ pub mod Net
 pub mod Overlay
 pub mod Described
 pub mod Statements
+pub mod Copying

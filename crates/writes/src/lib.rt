@@ -1,7 +1,8 @@
-// Little-endian numbers in lent bytes. The crate's laws of byte writes stand in proofs/.
+// Little-endian numbers in lent bytes, and bytes copied. The crate's laws of byte writes stand in proofs/.
 ghost use mathlib.Core.Path.{_≡_};
-ghost use Prim.Native.Nat.{_+_, _^_, _≤_, _<_};
+ghost use Prim.Native.Nat.{_+_, _-_, _^_, _≤_, _<_};
 ghost use lib.ListN.{length, take, drop};
+ghost use lib.Seq.{paste};
 ghost use Rattle.writes.specs.LittleEndian.{leVal};
 
 // A byte as a word.
@@ -41,4 +42,54 @@ pub fn le64(s: &[u8], at: usize) -> u64
     let low = le32(s, at);
     let high = le32(s, at + 4);
     low + 0x1_0000_0000 * high
+}
+
+// Eight bytes at index i: all loads before the stores.
+fn copy8(dst: &mut [u8], src: &[u8], i: usize)
+    requires { ⌜ (i + 8 ≤ length (now dst)) × (i + 8 ≤ length (now src)) ⌝ }
+    ensures { λ _. ⌜ now (dst .exit) ≡ paste (now (dst .entry)) i (drop i (now (src .entry))) 8 ⌝ }
+{
+    let b0 = src[i];
+    let b1 = src[i + 1];
+    let b2 = src[i + 2];
+    let b3 = src[i + 3];
+    let b4 = src[i + 4];
+    let b5 = src[i + 5];
+    let b6 = src[i + 6];
+    let b7 = src[i + 7];
+    dst[i] = b0;
+    dst[i + 1] = b1;
+    dst[i + 2] = b2;
+    dst[i + 3] = b3;
+    dst[i + 4] = b4;
+    dst[i + 5] = b5;
+    dst[i + 6] = b6;
+    dst[i + 7] = b7;
+}
+
+// The bytes from index `done` on.
+fn copy_rest(dst: &mut [u8], src: &[u8], done: usize)
+    requires { ⌜ (done ≤ length (now dst)) × (length (now src) ≡ length (now dst)) ⌝ }
+    ensures { λ _. ⌜ now (dst .exit) ≡ paste (now (dst .entry)) done (drop done (now (src .entry))) (length (now (src .entry)) - done) ⌝ }
+{
+    let n = dst.len();
+    let mut i = done;
+    while i < n {
+        dst[i] = src[i];
+        i += 1;
+    }
+}
+
+// All bytes of src, which are as many.
+pub fn copy(dst: &mut [u8], src: &[u8])
+    requires { ⌜ length (now src) ≡ length (now dst) ⌝ }
+    ensures { λ _. ⌜ now (dst .exit) ≡ now (src .entry) ⌝ }
+{
+    let n = dst.len();
+    let mut i = 0;
+    while 8 <= n - i {
+        copy8(dst, src, i);
+        i += 8;
+    }
+    copy_rest(dst, src, i);
 }

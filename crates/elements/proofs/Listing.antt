@@ -1,0 +1,152 @@
+-- Lists of active elements: one more, and a store's list as its plan's. Assumes nothing.
+use mathlib.Core.Path.{_≡_, refl, sym, ap, ap₂, _∙_, subst}
+use mathlib.Core.Bool.{Bool, true, false, cond}
+use mathlib.Core.List.{List, [], _∷_}
+use Prim.Native.Nat.{ℕ, zero, suc, _+_, _-_, _*_, _/_, _%_, _^_, _≤_, _<_}
+use native.Mathlib.Nat.{one-mul, mod-one, zero-mod, pow-zero, pow-suc}
+use native.Mathlib.Numerals.{add-one}
+use native.Mathlib.Omega.{arith}
+use lib.Arith.{mod-mul}
+use lib.Dec.{T}
+use lib.Pow.{pow-pos}
+use lib.ListN.{length, getD, take, drop}
+use Rattle.encoding.specs.Classes.{Class}
+use Rattle.encoding.specs.Encoding.{classFor}
+use Rattle.encoding.specs.declared.Extension.{Extension}
+use Rattle.encoding.specs.declared.Extension.the-variants.{None, Uxtw, Sxtw}
+use Rattle.encoding.specs.declared.ScatterFields.{ScatterFields}
+use Rattle.encoding.specs.declared.StridedFields.{StridedFields}
+use Rattle.encoding.specs.declared.QuadwordFields.{QuadwordFields}
+use Rattle.encoding.specs.declared.Store.the-variants.{Scatter, Strided, Quadword}
+use Rattle.encoding.proofs.Tests.{cond-true, cond-false}
+use Rattle.writes.specs.LittleEndian.{Bytes, leVal}
+use Rattle.writes.specs.Elements.{Element}
+use Rattle.writes.proofs.LittleEndian.{bytes-take, bytes-drop}
+use Rattle.elements.specs.Machine.{Machine, baseOf, indexOf, vector, predicate}
+use Rattle.elements.specs.Stores.{stepOf, sizeOf, perRegister, countOf, signed32, offsetOf, elementIn, startOf}
+use Rattle.elements.specs.Elements.{activeAt, elementAt, actives, elements}
+use Rattle.elements.specs.Plans.{offsetFrom, vectorAddress, vectorActive, vectorElement, vectorElements, scatterPlan, quadwordPlan, stridedAddress, stridedActive, stridedElement, stridedElements, stridedPlan}
+use Rattle.elements.proofs.Shapes.{ScatterIn, QuadwordIn, StridedIn}
+
+-- ---- one more element
+
+module _ (on : ℕ → Bool) (el : ℕ → Element) where
+  more : (n k e : ℕ) → n ≡ suc k → actives on el n e ≡ cond (on e) (el e ∷ actives on el k (suc e)) (actives on el k (suc e))
+  unfolding actives
+  more n k e q = ap (λ (j : ℕ). actives on el j e) q
+
+  -- of the elements below n from e on: e itself, where it is on, and those after it
+  pub active-more : (n e : ℕ) → e < n → on e ≡ true → actives on el (n - e) e ≡ el e ∷ actives on el (n - (e + 1)) (e + 1)
+  active-more n e h t =
+      let q : n - e ≡ suc (n - (e + 1)) = omega arith in
+      more (n - e) (n - (e + 1)) e q
+      ∙ ap (λ (b : Bool). cond b (el e ∷ actives on el (n - (e + 1)) (suc e)) (actives on el (n - (e + 1)) (suc e))) t
+      ∙ ap (λ (j : ℕ). el e ∷ actives on el (n - (e + 1)) j) (sym (add-one e))
+
+  pub inactive-more : (n e : ℕ) → e < n → on e ≡ false → actives on el (n - e) e ≡ actives on el (n - (e + 1)) (e + 1)
+  inactive-more n e h t =
+      let q : n - e ≡ suc (n - (e + 1)) = omega arith in
+      more (n - e) (n - (e + 1)) e q
+      ∙ ap (λ (b : Bool). cond b (el e ∷ actives on el (n - (e + 1)) (suc e)) (actives on el (n - (e + 1)) (suc e))) t
+      ∙ ap (actives on el (n - (e + 1))) (sym (add-one e))
+
+  pub active-none : (n e : ℕ) → n ≤ e → actives on el (n - e) e ≡ []
+  unfolding actives
+  active-none n e h = let q : n - e ≡ 0 = omega arith in ap (λ (j : ℕ). actives on el j e) q
+
+-- two lists whose elements agree
+pub actives-same : (on on′ : ℕ → Bool) (el el′ : ℕ → Element) → ((e : ℕ) → on e ≡ on′ e) → ((e : ℕ) → el e ≡ el′ e) → (n e : ℕ)
+    → actives on el n e ≡ actives on′ el′ n e
+unfolding actives
+actives-same on on′ el el′ f g zero e = refl
+actives-same on on′ el el′ f g (suc n) e =
+    let t = actives-same on on′ el el′ f g n (suc e) in
+    λ i. cond (f e i) (g e i ∷ t i) (t i)
+
+-- ---- offsets
+
+-- the low k bytes of a little-endian number
+low-bytes : (k n : ℕ) (l : List ℕ) → k ≤ n → Bytes l → leVal (take n l) % 256 ^ k ≡ leVal (take k l)
+unfolding leVal
+low-bytes zero n l h b = mod-one (leVal (take n l))
+low-bytes (suc k) zero l h b = absurd (omega arith)
+low-bytes (suc k) (suc n) [] h b = zero-mod (256 ^ suc k)
+low-bytes (suc k) (suc n) (x ∷ l) h b =
+    let hx : x < 256 = b .0 in
+    let v = leVal (take n l) in
+    let m : (x + 256 * v) % (256 ^ k * 256) ≡ ((x + 256 * v) / 256 % 256 ^ k) * 256 + (x + 256 * v) % 256 = mod-mul (x + 256 * v) (power k) (omega arith) in
+    let q : (x + 256 * v) / 256 ≡ v = omega arith in
+    let r : (x + 256 * v) % 256 ≡ x = omega arith in
+    let ih : v % 256 ^ k ≡ leVal (take k l) = low-bytes k n l (omega arith) (b .1) in
+    ap (λ (y : ℕ). (x + 256 * v) % y) (pow-suc 256 k)
+    ∙ m
+    ∙ ap₂ (λ (y z : ℕ). (y % 256 ^ k) * 256 + z) q r
+    ∙ ap (λ (y : ℕ). y * 256 + x) ih
+    ∙ omega arith
+  where
+    power : (j : ℕ) → 0 < 256 ^ j
+    power zero = omega (arith, pow-zero 256)
+    power (suc j) = omega (arith, pow-suc 256 j, power j)
+
+offset-is : (x : Extension) (n at : ℕ) (reg : List ℕ) → (x ≡ None → n ≡ 8) → 4 ≤ n → Bytes reg
+    → offsetOf x (leVal (take n (drop at reg))) ≡ offsetFrom x reg at
+offset-is None n at reg f h b = ap (λ (k : ℕ). leVal (take k (drop at reg))) (f refl)
+offset-is Uxtw n at reg f h b = low-bytes 4 n (drop at reg) h (bytes-drop at reg b)
+offset-is Sxtw n at reg f h b = ap signed32 (low-bytes 4 n (drop at reg) h (bytes-drop at reg b))
+
+-- ---- a store's list is its plan's
+
+element-same : (e a a′ : ℕ) (p : List ℕ) → a ≡ a′ → _≡_ {A = Element} (record { number = e; address = a; bytes = p }) (record { number = e; address = a′; bytes = p })
+element-same e a a′ p q = λ i. record { number = e; address = q i; bytes = p }
+
+module _ (m : Machine) (b : Bytes (m .z)) where
+  pub scatter-elements : (f : ScatterFields) → ScatterIn f (classFor (Scatter f))
+      → elements m (Scatter f) ≡ vectorElements (scatterPlan m (classFor (Scatter f)) f) (vector m (f .zm)) (predicate m (f .pg)) (vector m (f .zt))
+  unfolding elements activeAt elementAt vectorElements vectorActive vectorElement vectorAddress
+  scatter-elements f s =
+      let c = classFor (Scatter f) in
+      let v = scatterPlan m c f in
+      let reg = vector m (f .zm) in
+      ap (λ (n : ℕ). actives (activeAt m (Scatter f)) (elementAt m (Scatter f)) n 0) (ap (λ (k : ℕ). k * perRegister m c) (s .nreg) ∙ one-mul (perRegister m c))
+      ∙ actives-same (activeAt m (Scatter f)) (vectorActive v (predicate m (f .pg))) (elementAt m (Scatter f)) (vectorElement v reg (vector m (f .zt)))
+      (λ e. refl)
+      (λ e.
+        element-same e _ _ (take (sizeOf c) (drop (e * stepOf c) (vector m (f .zt))))
+        (ap (λ (o : ℕ). (baseOf m (f .rn) + o * 2 ^ c .scale) % 2 ^ 64)
+        (offset-is (f .extension) (stepOf c) (e * stepOf c) reg (s .none) (s .four) (bytes-take (m .vb) (drop (f .zm * m .vb) (m .z)) (bytes-drop (f .zm * m .vb) (m .z) b)))))
+      (perRegister m c) 0
+
+pub quadword-elements : (m : Machine) (f : QuadwordFields) → QuadwordIn f (classFor (Quadword f))
+    → elements m (Quadword f) ≡ vectorElements (quadwordPlan m (classFor (Quadword f)) f) (vector m (f .zn)) (predicate m (f .pg)) (vector m (f .zt))
+unfolding elements activeAt elementAt vectorElements vectorActive vectorElement vectorAddress
+quadword-elements m f s =
+    let c = classFor (Quadword f) in
+    let v = quadwordPlan m c f in
+    let reg = vector m (f .zn) in
+    ap (λ (n : ℕ). actives (activeAt m (Quadword f)) (elementAt m (Quadword f)) n 0) (ap (λ (k : ℕ). k * perRegister m c) (s .nreg) ∙ one-mul (perRegister m c))
+    ∙ actives-same (activeAt m (Quadword f)) (vectorActive v (predicate m (f .pg))) (elementAt m (Quadword f)) (vectorElement v reg (vector m (f .zt)))
+    (λ e. refl)
+    (λ e.
+      element-same e _ _ (take (sizeOf c) (drop (e * stepOf c) (vector m (f .zt))))
+      (let q : 2 * e * 8 ≡ e * stepOf c = omega (arith, ap (λ (n : ℕ). e * n) (s .sixteen)) in
+      ap (λ (at : ℕ). (leVal (take 8 (drop at reg)) + indexOf m (f .rm)) % 2 ^ 64) q
+      ∙ ap (λ (n : ℕ). n % 2 ^ 64) (sum (leVal (take 8 (drop (e * stepOf c) reg))) (indexOf m (f .rm)))))
+    (perRegister m c) 0
+  where
+    sum : (a i : ℕ) → a + i ≡ i + a * 1
+    sum a i = omega arith
+
+pub strided-elements : (m : Machine) (f : StridedFields)
+    → elements m (Strided f) ≡ stridedElements (stridedPlan m (classFor (Strided f)) f) (m .vb) (m .z)
+unfolding elements activeAt elementAt stridedElements stridedActive stridedElement stridedAddress
+strided-elements m f =
+    let c = classFor (Strided f) in
+    let s = stridedPlan m c f in
+    let a = startOf m c (f .rn) (f .rm) (f .multiple) in
+    actives-same (activeAt m (Strided f)) (stridedActive s) (elementAt m (Strided f)) (stridedElement s (m .vb) (m .z))
+    (λ e. refl)
+    (λ e. element-same e _ _ _ (wrapped a (e * stepOf c)))
+    (c .nreg * perRegister m c) 0
+  where
+    wrapped : (a d : ℕ) → (a + d) % 2 ^ 64 ≡ (a % 2 ^ 64 + d) % 2 ^ 64
+    wrapped a d = omega arith
