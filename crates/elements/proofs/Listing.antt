@@ -111,9 +111,9 @@ module _ (m : Machine) (b : Bytes (m .z)) where
       ∙ actives-same (activeAt m (Scatter f)) (vectorActive v (predicate m (f .pg))) (elementAt m (Scatter f)) (vectorElement v reg (vector m (f .zt)))
       (λ e. refl)
       (λ e.
-        element-same e _ _ (take (sizeOf c) (drop (e * stepOf c) (vector m (f .zt))))
-        (ap (λ (o : ℕ). (baseOf m (f .rn) + o * 2 ^ c .scale) % 2 ^ 64)
-        (offset-is (f .extension) (stepOf c) (e * stepOf c) reg (s .none) (s .four) (bytes-take (m .vb) (drop (f .zm * m .vb) (m .z)) (bytes-drop (f .zm * m .vb) (m .z) b)))))
+      element-same e _ _ (take (sizeOf c) (drop (e * stepOf c) (vector m (f .zt))))
+      (ap (λ (o : ℕ). (baseOf m (f .rn) + o * 2 ^ c .scale) % 2 ^ 64)
+      (offset-is (f .extension) (stepOf c) (e * stepOf c) reg (s .none) (s .four) (bytes-take (m .vb) (drop (f .zm * m .vb) (m .z)) (bytes-drop (f .zm * m .vb) (m .z) b)))))
       (perRegister m c) 0
 
 pub quadword-elements : (m : Machine) (f : QuadwordFields) → QuadwordIn f (classFor (Quadword f))
@@ -127,10 +127,10 @@ quadword-elements m f s =
     ∙ actives-same (activeAt m (Quadword f)) (vectorActive v (predicate m (f .pg))) (elementAt m (Quadword f)) (vectorElement v reg (vector m (f .zt)))
     (λ e. refl)
     (λ e.
-      element-same e _ _ (take (sizeOf c) (drop (e * stepOf c) (vector m (f .zt))))
-      (let q : 2 * e * 8 ≡ e * stepOf c = omega (arith, ap (λ (n : ℕ). e * n) (s .sixteen)) in
-      ap (λ (at : ℕ). (leVal (take 8 (drop at reg)) + indexOf m (f .rm)) % 2 ^ 64) q
-      ∙ ap (λ (n : ℕ). n % 2 ^ 64) (sum (leVal (take 8 (drop (e * stepOf c) reg))) (indexOf m (f .rm)))))
+    element-same e _ _ (take (sizeOf c) (drop (e * stepOf c) (vector m (f .zt))))
+    (let q : 2 * e * 8 ≡ e * stepOf c = omega (arith, ap (λ (n : ℕ). e * n) (s .sixteen)) in
+    ap (λ (at : ℕ). (leVal (take 8 (drop at reg)) + indexOf m (f .rm)) % 2 ^ 64) q
+    ∙ ap (λ (n : ℕ). n % 2 ^ 64) (sum (leVal (take 8 (drop (e * stepOf c) reg))) (indexOf m (f .rm)))))
     (perRegister m c) 0
   where
     sum : (a i : ℕ) → a + i ≡ i + a * 1

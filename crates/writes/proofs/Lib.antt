@@ -7,3 +7,4 @@ pub mod Overlay
 pub mod Described
 pub mod Statements
 pub mod Copying
+pub mod Windows

@@ -1,5 +1,6 @@
 -- What the customer must believe of byte writes, from document 01 (shared/papers/01-scope.md).
 pub mod LittleEndian
+pub mod Window
 pub mod Sets
 pub mod Sizes
 pub mod Encoding

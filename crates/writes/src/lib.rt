@@ -1,9 +1,10 @@
-// Little-endian numbers in lent bytes, and bytes copied. The crate's laws of byte writes stand in proofs/.
+// Little-endian numbers in lent bytes, bytes copied, and the window's tests. The crate's laws of byte writes stand in proofs/.
 ghost use mathlib.Core.Path.{_≡_};
 ghost use Prim.Native.Nat.{_+_, _-_, _^_, _≤_, _<_};
 ghost use lib.ListN.{length, take, drop};
 ghost use lib.Seq.{paste};
 ghost use Rattle.writes.specs.LittleEndian.{leVal};
+ghost use Rattle.writes.specs.Window.{windowOk, inWindow};
 
 // A byte as a word.
 pub fn wide(x: u8) -> u64
@@ -92,4 +93,37 @@ pub fn copy(dst: &mut [u8], src: &[u8])
         i += 8;
     }
     copy_rest(dst, src, i);
+}
+
+// Whether the window is one: at most 65,536 bytes, and not past 2^64.
+pub fn window_ok(base: u64, len: usize) -> bool
+    ensures { λ r. ⌜ r ≡ windowOk base len ⌝ }
+{
+    if 65536 < len {
+        return false;
+    }
+    if len == 0 {
+        return true;
+    }
+    if 0xffff_ffff_ffff_ffff - base < len as u64 - 1 {
+        return false;
+    }
+    true
+}
+
+// Whether n bytes from `start` on lie in the window.
+pub fn inside(base: u64, room: u64, start: u64, n: u64) -> bool
+    ensures { λ r. ⌜ r ≡ inWindow base room start n ⌝ }
+{
+    if start < base {
+        return false;
+    }
+    let offset = start - base;
+    if room < offset {
+        return false;
+    }
+    if room - offset < n {
+        return false;
+    }
+    true
 }

@@ -1,0 +1,2 @@
+-- What running a store answers and leaves, from document 01 (shared/papers/01-scope.md).
+pub mod Scanning
