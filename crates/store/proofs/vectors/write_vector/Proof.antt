@@ -1,114 +1,178 @@
+-- The active elements passed are in memory. Assumes nothing.
+use mathlib.Core.Bool.{true}
+use mathlib.Core.List.{List}
+use native.Mathlib.Nat.{mul-le-mul-left}
+use mathlib.Core.Path.{_≡_, sym, ap, _∙_, subst}
+use Prim.Native.Nat.{ℕ, _+_, _-_, _*_, _/_, _≤_, _<_}
+use native.Mathlib.Omega.{arith}
+use lib.ListN.{length, take, drop}
+use borrow.Author.Needs.{needs}
+use borrow.Author.Tests.{not-true, not-false}
+use Rattle.elements.specs.Plans.{offsetBytes, vectorActive, vectorElement, vectorElements}
+use Rattle.writes.specs.Elements.{Element, over}
+use Rattle.store.proofs.Parts.{part-is, part-length, part-over}
+use Rattle.store.proofs.Walking.{Stored, stored-first, stored-off, stored-on, stored-done, here}
+use Rattle.store.proofs.Spans.{offset-in, bit-in, below-end, bytes-in, bytes-long, few}
 use Rattle.store.proofs.vectors.write_vector.Statement.{statement}
 use Rattle.store.proofs.vectors.write_vector.Tie as tie
-use Rattle.store.proofs.vectors.write_vector.Reads as reads
-use Rattle.store.proofs.vectors.write_vector.Lts as lts
-use Rattle.elements.proofs.vector_active.Reads as vector-active-reads
-use Rattle.elements.proofs.vector_address.Reads as vector-address-reads
-use Rattle.writes.proofs.copy.Reads as copy-reads
 
 abbrev Inv-loop : tie.InvT-loop
-Inv-loop v vb offsets governing stored base memory₀ count size step elements₀ bytes₀ e₀ memory elements bytes e =
-    ?
+Inv-loop v vb offsets governing stored base memory₀ count size step elements₀ bytes₀ e₀ memory elements bytes e = (bytes ≡ elements * v .size) × Stored (vectorActive v governing) (vectorElement v offsets stored) (v .count) base memory₀ memory elements e
 
 abbrev μ-loop : tie.MeasureT-loop
-μ-loop v vb offsets governing stored base memory₀ count size step elements₀ bytes₀ e₀ memory elements bytes e =
-    ?
+μ-loop v vb offsets governing stored base memory₀ count size step elements₀ bytes₀ e₀ memory elements bytes e = count - e
 
--- src/vectors.rt:71:5
 loop-holds : tie.Need-loop-holds Inv-loop μ-loop
-loop-holds c = ?
+unfolding vectorElements
+loop-holds c =
+    let a = c .before .before .before .before in
+    (search needs, stored-first (vectorActive (a .args .v) (a .args .governing .now)) (vectorElement (a .args .v) (a .args .offsets .now) (a .args .stored .now)) (a .args .v .count) (a .args .base) (a .args .memory .now) (a .pre .1 .1))
 
--- src/vectors.rt:72:13
 vector-active-requires : tie.Need-vector-active-requires Inv-loop μ-loop
-vector-active-requires c κs = ?
+vector-active-requires c κs =
+    let a = c .before .before .before .before .before .before in
+    let e = c .before .loop .e in
+    (subst (λ (n : ℕ). e * a .args .v .step / 8 < n) (sym (a .pre .1 .0 .1)) (bit-in (a .args .v) (a .args .vb) (a .pre .0) e (c .loop-test .taken)), below-end (a .args .v) (a .args .vb) (a .pre .0) e (c .loop-test .taken))
 
--- src/vectors.rt:73:13
+abbrev At : Type 0
+At = tie.After-vector-address Inv-loop μ-loop
+
+abbrev st : At → tie.Start Inv-loop μ-loop
+st c = c .before .before .before .before .before .before .before .before .before
+
+abbrev e : At → ℕ
+e c = c .before .before .before .before .loop .e
+
+abbrev this : At → Element
+this c = vectorElement (st c .args .v) (st c .args .offsets .now) (st c .args .stored .now) (e c)
+
+active : (c : At) → vectorActive (st c .args .v) (st c .args .governing .now) (e c) ≡ true
+active c = sym (c .before .before .vector-active .ensures) ∙ not-false (c .before .before .vector-active .result) (c .before .if1 .left)
+
+addressed : (c : At) → c .vector-address .result ≡ this c .address
+unfolding vectorElement
+addressed c = c .vector-address .ensures
+
+long : (c : At) → length (this c .bytes) ≡ st c .args .v .size
+long c = bytes-long (st c .args .v) (st c .args .vb) (st c .pre .0) (e c) (c .before .before .before .loop-test .taken) (st c .args .offsets .now) (st c .args .stored .now) (st c .pre .1 .0 .2)
+
+record Lies (W L a n : ℕ) : Type 0 where
+  low : W ≤ a
+  high : a + n ≤ W + L
+
+lies : (c : At) → Lies (st c .args .base) (length (c .before .before .before .before .loop .memory)) (c .vector-address .result) (st c .args .v .size)
+lies c =
+    let l = c .before .before .before .before .loop in
+    let t = here (vectorActive (st c .args .v) (st c .args .governing .now)) (vectorElement (st c .args .v) (st c .args .offsets .now) (st c .args .stored .now)) (st c .args .v .count) (st c .args .base) (st c .args .memory .now) (l .memory) (l .elements) (l .e) (c .before .before .before .loop-test .taken) (l .inv .1) (active c) in
+    record { low = omega (arith, t .0, addressed c); high = omega (arith, t .1, addressed c, long c, l .inv .1 .long) }
+
+inside-register : (c : At) → e c * st c .args .v .step + st c .args .v .size ≤ st c .args .vb
+inside-register c = bytes-in (st c .args .v) (st c .args .vb) (st c .pre .0) (e c) (c .before .before .before .loop-test .taken)
+
+times : (a b : ℕ) → a ≤ 256 → b ≤ 256 → a * b ≤ 256 * 256
+times a b ha hb = omega (arith, mul-le-mul-left a hb)
+
+next : (k s b : ℕ) → b ≡ k * s → b + s ≡ (k + 1) * s
+next k s b q = omega arith
+
+same : (c : At) (l : List ℕ) → l ≡ take (st c .args .v .size) (drop (e c * st c .args .v .step) (st c .args .stored .now)) → l ≡ this c .bytes
+unfolding vectorElement
+same c l q = q
+
 add-e : tie.Need-add-e Inv-loop μ-loop
-add-e c = ?
+add-e c = omega (arith, few (c .before .before .before .before .before .before .before .before .args .v) (c .before .before .before .before .before .before .before .before .args .vb) (c .before .before .before .before .before .before .before .before .pre .0))
 
--- src/vectors.rt:71:5
 loop-less : tie.Need-loop-less Inv-loop μ-loop
-loop-less c = ?
+loop-less c = omega arith
 
--- src/vectors.rt:71:5
 loop-again : tie.Need-loop-again Inv-loop μ-loop
-loop-again c = ?
+loop-again c =
+    let a = c .before .before .before .before .before .before .before .before .args in
+    let l = c .before .before .before .loop in
+    (l .inv .0, stored-off (vectorActive (a .v) (a .governing .now)) (vectorElement (a .v) (a .offsets .now) (a .stored .now)) (a .v .count) (a .base) (a .memory .now) (l .memory) (l .elements) (l .e) (c .before .before .loop-test .taken) (l .inv .1)
+      (sym (c .before .vector-active .ensures) ∙ not-true (c .before .vector-active .result) (c .if1 .taken)))
 
--- src/vectors.rt:76:19
 vector-address-requires : tie.Need-vector-address-requires Inv-loop μ-loop
-vector-address-requires c κs = ?
+vector-address-requires c κs =
+    let a = c .before .before .before .before .before .before .before .before in
+    let e = c .before .before .before .loop .e in
+    (subst (λ (n : ℕ). e * a .args .v .step + offsetBytes (a .args .v .extension) ≤ n) (sym (a .pre .1 .0 .0)) (offset-in (a .args .v) (a .args .vb) (a .pre .0) e (c .before .before .loop-test .taken)), a .pre .0 .scale)
 
--- src/vectors.rt:76:19
 sub-at : tie.Need-sub-at Inv-loop μ-loop
-sub-at c = ?
+sub-at c = lies c .low
 
--- src/vectors.rt:77:18
 add-to : tie.Need-add-to Inv-loop μ-loop
-add-to c = ?
+add-to c = omega (arith, lies c, c .before .before .before .before .before .before .before .before .before .pre .0 .high, c .before .before .before .before .before .before .before .before .before .pre .0 .size, inside-register c)
 
--- src/vectors.rt:78:20
 mul-from : tie.Need-mul-from Inv-loop μ-loop
-mul-from c = ?
+mul-from c = omega (arith, inside-register c, c .before .before .before .before .before .before .before .before .before .pre .0 .high)
 
--- src/vectors.rt:79:19
 add-end : tie.Need-add-end Inv-loop μ-loop
-add-end c = ?
+add-end c = omega (arith, inside-register c, c .before .before .before .before .before .before .before .before .before .pre .0 .high)
 
--- src/vectors.rt:80:22
 sub-copy : tie.Need-sub-copy Inv-loop μ-loop
-sub-copy c = ?
+sub-copy c = omega arith
 
--- src/vectors.rt:80:22
 part-copy-start : tie.Need-part-copy-start Inv-loop μ-loop
-part-copy-start c = ?
+part-copy-start c = omega arith
 
--- src/vectors.rt:80:22
 part-copy-end : tie.Need-part-copy-end Inv-loop μ-loop
-part-copy-end c = ?
+part-copy-end c = omega (arith, lies c)
 
--- src/vectors.rt:80:43
 sub-copy-2 : tie.Need-sub-copy-2 Inv-loop μ-loop
-sub-copy-2 c = ?
+sub-copy-2 c = omega arith
 
--- src/vectors.rt:80:43
 part-copy-start-2 : tie.Need-part-copy-start-2 Inv-loop μ-loop
-part-copy-start-2 c = ?
+part-copy-start-2 c = omega arith
 
--- src/vectors.rt:80:43
 part-copy-end-2 : tie.Need-part-copy-end-2 Inv-loop μ-loop
-part-copy-end-2 c = ?
+part-copy-end-2 c = omega (arith, inside-register (c .before), c .before .before .before .before .before .before .before .before .before .before .pre .1 .0 .2)
 
--- src/vectors.rt:80:9
 copy-requires : tie.Need-copy-requires Inv-loop μ-loop
-copy-requires c κs = ?
+copy-requires c κs =
+    let k = c .before .before in
+    let t = lies k in
+    let a = k .vector-address .result - st k .args .base in
+    part-length (st k .args .stored .now) (e k * st k .args .v .step) (st k .args .v .size) (omega (arith, inside-register k, st k .pre .1 .0 .2))
+    ∙ sym (part-length (k .before .before .before .before .loop .memory) a (st k .args .v .size) (omega (arith, t .low, t .high)))
 
--- src/vectors.rt:81:9
 add-elements : tie.Need-add-elements Inv-loop μ-loop
-add-elements c = ?
+add-elements c = omega (arith, few (c .before .before .before .before .before .before .before .before .before .before .before .before .before .before .args .v) (c .before .before .before .before .before .before .before .before .before .before .before .before .before .before .args .vb) (c .before .before .before .before .before .before .before .before .before .before .before .before .before .before .pre .0), c .before .before .before .before .before .before .before .before .before .loop .inv .1 .few)
 
--- src/vectors.rt:82:9
 add-bytes : tie.Need-add-bytes Inv-loop μ-loop
-add-bytes c = ?
+add-bytes c =
+    let a = c .before .before .before .before .before .before .before .before .before .before .before .before .before .before in
+    let l = c .before .before .before .before .before .before .before .before .before .loop in
+    let n : l .elements * a .args .v .size ≤ 256 * 256 = omega (arith, times (l .elements) (a .args .v .size) (omega (arith, few (a .args .v) (a .args .vb) (a .pre .0), l .inv .1 .few, l .inv .1 .most)) (omega (arith, inside-register (c .before .before .before .before .before), a .pre .0 .high))) in
+    omega (arith, l .inv .0, inside-register (c .before .before .before .before .before), a .pre .0 .high)
 
--- src/vectors.rt:83:9
 add-e-2 : tie.Need-add-e-2 Inv-loop μ-loop
-add-e-2 c = ?
+add-e-2 c = omega (arith, few (c .before .before .before .before .before .before .before .before .before .before .before .before .before .before .args .v) (c .before .before .before .before .before .before .before .before .before .before .before .before .before .before .args .vb) (c .before .before .before .before .before .before .before .before .before .before .before .before .before .before .pre .0))
 
--- src/vectors.rt:71:5
 loop-less-2 : tie.Need-loop-less-2 Inv-loop μ-loop
-loop-less-2 c = ?
+loop-less-2 c = omega arith
 
--- src/vectors.rt:71:5
 loop-again-2 : tie.Need-loop-again-2 Inv-loop μ-loop
-loop-again-2 c = ?
+loop-again-2 c =
+    let k = c .before .before .before .before .before in
+    let a = st k .args in
+    let l = k .before .before .before .before .loop in
+    let t = lies k in
+    let q = c .before .before .copy .ensures ∙ part-is (a .stored .now) (e k * a .v .step) (a .v .size) in
+    let m = part-over (l .memory) (k .vector-address .result - a .base) (a .v .size) (c .before .before .copy .last .0) (this k .bytes) (long k) (same k (c .before .before .copy .last .0) q) ∙ ap (λ (n : ℕ). over (l .memory) (n - a .base) (this k .bytes)) (addressed k) in
+    (next (l .elements) (a .v .size) (l .bytes) (l .inv .0),
+      stored-on (vectorActive (a .v) (a .governing .now)) (vectorElement (a .v) (a .offsets .now) (a .stored .now)) (a .v .count) (a .base) (a .memory .now) (l .memory) (l .elements) (l .e) (k .before .before .before .loop-test .taken) (l .inv .1) (active k) _ m)
 
--- src/vectors.rt:49:1
 same-length : tie.Need-same-length Inv-loop μ-loop
-same-length c = ?
+same-length c = c .before .loop .inv .1 .long
 
--- src/vectors.rt:49:1
 returns : tie.Need-returns Inv-loop μ-loop
-returns c = ?
+unfolding vectorElements
+returns c =
+    let a = c .before .before .before .before .before .before .args in
+    let l = c .before .loop in
+    let d = stored-done (vectorActive (a .v) (a .governing .now)) (vectorElement (a .v) (a .offsets .now) (a .stored .now)) (a .v .count) (a .base) (a .memory .now) (l .memory) (l .elements) (l .e) (c .loop-test .left) (l .inv .1) in
+    (d .0, (l .inv .0 ∙ ap (λ (n : ℕ). n * a .v .size) (d .0), d .1))
 
 pub write-vector-spec : {M : Type 1} → statement M
 write-vector-spec =
