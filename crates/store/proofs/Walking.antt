@@ -37,7 +37,7 @@ module _ (on : ℕ → Bool) (el : ℕ → Element) (n : ℕ) where
       -- what the scan says of an active element
       active-next : on e ≡ true
           → cond (inWindow W L (el e .address) (length (el e .bytes))) (scanFrom W L (suc k) (actives on el (n - (e + 1)) (e + 1))) (Out (el e .number) (el e .address))
-            ≡ scanFrom W L 0 (actives on el n 0)
+          ≡ scanFrom W L 0 (actives on el n 0)
       unfolding scanFrom
       active-next t = ap (scanFrom W L k) (sym (active-more on el n e h t)) ∙ s .same
 
@@ -47,9 +47,9 @@ module _ (on : ℕ → Bool) (el : ℕ → Element) (n : ℕ) where
             most = omega arith;
             few = omega (arith, s .few);
             same =
-              ap (λ (j : ℕ). scanFrom W L j (actives on el (n - (e + 1)) (e + 1))) (add-one k)
-              ∙ sym (ap (λ (b : Bool). cond b (scanFrom W L (suc k) (actives on el (n - (e + 1)) (e + 1))) (Out (el e .number) (el e .address))) i)
-              ∙ active-next t
+                ap (λ (j : ℕ). scanFrom W L j (actives on el (n - (e + 1)) (e + 1))) (add-one k)
+                ∙ sym (ap (λ (b : Bool). cond b (scanFrom W L (suc k) (actives on el (n - (e + 1)) (e + 1))) (Out (el e .number) (el e .address))) i)
+                ∙ active-next t;
           }
 
       pub scanned-out : on e ≡ true → inWindow W L (el e .address) (length (el e .bytes)) ≡ false
@@ -82,7 +82,7 @@ module _ (on : ℕ → Bool) (el : ℕ → Element) (n : ℕ) where
           long = refl;
           inside = subst (λ (j : ℕ). InWindow W (length m₀) (actives on el j 0)) (sym q) i;
           same = ap (λ (j : ℕ). written W m₀ (actives on el j 0)) q;
-          total = ap (λ (j : ℕ). 0 + length (actives on el j 0)) q ∙ omega arith
+          total = ap (λ (j : ℕ). 0 + length (actives on el j 0)) q ∙ omega arith;
         }
 
     module _ (m : List ℕ) (k e : ℕ) (h : e < n) (s : Stored W m₀ m k e) where
@@ -95,7 +95,7 @@ module _ (on : ℕ → Bool) (el : ℕ → Element) (n : ℕ) where
             long = s .long;
             inside = subst (InWindow W (length m₀)) q (s .inside);
             same = ap (written W m) (sym q) ∙ s .same;
-            total = ap (λ (l : List Element). k + length l) (sym q) ∙ s .total
+            total = ap (λ (l : List Element). k + length l) (sym q) ∙ s .total;
           }
 
       -- an active element lies in the window
@@ -117,7 +117,7 @@ module _ (on : ℕ → Bool) (el : ℕ → Element) (n : ℕ) where
             long = ap length r ∙ length-over m (el e .address - W) (el e .bytes) (omega (arith, s .long)) ∙ s .long;
             inside = i .2;
             same = ap (λ (l : List ℕ). written W l (actives on el (n - (e + 1)) (e + 1))) r ∙ ap (written W m) (sym q) ∙ s .same;
-            total = omega (arith, ap length q, s .total)
+            total = omega (arith, ap length q, s .total);
           }
 
     pub stored-done : (m : List ℕ) (k e : ℕ) → n ≤ e → Stored W m₀ m k e

@@ -1,4 +1,5 @@
 // Running a store over a lent machine and a lent window.
+mod strided;
 mod vectors;
 
 ghost use mathlib.Core.Path.{_≡_};

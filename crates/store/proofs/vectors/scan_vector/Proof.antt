@@ -1,5 +1,5 @@
 -- Every element passed that is active lies in the window, whatever data it has. Assumes nothing.
-use mathlib.Core.Path.{_≡_, sym, ap, ap₂, _∙_, subst}
+use mathlib.Core.Path.{_≡_, sym, ap, _∙_, subst}
 use mathlib.Core.Bool.{Bool, true, false, not}
 use mathlib.Core.List.{List}
 use Prim.Native.Nat.{ℕ, _+_, _-_, _*_, _/_, _≤_, _<_}
@@ -9,9 +9,8 @@ use borrow.Author.Tests.{not-true, not-false}
 use Rattle.elements.specs.Plans.{offsetBytes, vectorActive, vectorAddress, vectorElement, vectorElements}
 use Rattle.store.specs.declared.Scan.the-variants.{Clear, Out}
 use borrow.Author.Needs.{needs}
-use Rattle.writes.specs.Window.{inWindow}
 use Rattle.store.proofs.Walking.{Scanned, scanned-first, scanned-off, scanned-in, scanned-out, scanned-done}
-use Rattle.store.proofs.Spans.{offset-in, bit-in, below-end, bytes-long, few}
+use Rattle.store.proofs.Spans.{window, offset-in, bit-in, below-end, bytes-long, few}
 use Rattle.store.proofs.vectors.scan_vector.Statement.{statement}
 use Rattle.store.proofs.vectors.scan_vector.Tie as tie
 
@@ -20,10 +19,6 @@ Inv-loop v vb offsets governing base room count size active₀ e₀ active e = (
 
 abbrev μ-loop : tie.MeasureT-loop
 μ-loop v vb offsets governing base room count size active₀ e₀ active e = count - e
-
--- an element's window test by the address and size at hand
-window : (W L : ℕ) {a b n k : ℕ} → a ≡ b → n ≡ k → inWindow W L b n ≡ inWindow W L a k
-window W L p q = ap₂ (inWindow W L) (sym p) q
 
 loop-holds : tie.Need-loop-holds Inv-loop μ-loop
 loop-holds c =
@@ -46,11 +41,13 @@ loop-again : tie.Need-loop-again Inv-loop μ-loop
 loop-again c =
     let a = c .before .before .before .before .before .before .args in
     let l = c .before .before .before .loop in
-    let h = c .before .before .loop-test .taken in
-    (omega arith, omega (arith, l .inv .1),
+    let h = c .before .before .loop-test .taken in (
+      omega arith,
+      omega (arith, l .inv .1),
       λ stored q.
-      scanned-off (vectorActive (a .v) (a .governing .now)) (vectorElement (a .v) (a .offsets .now) stored) (a .v .count) (a .base) (a .room) (l .active) (l .e) h (l .inv .2 stored q)
-      (sym (c .before .vector-active .ensures) ∙ not-true (c .before .vector-active .result) (c .if1 .taken)))
+          scanned-off (vectorActive (a .v) (a .governing .now)) (vectorElement (a .v) (a .offsets .now) stored) (a .v .count) (a .base) (a .room) (l .active) (l .e) h (l .inv .2 stored q)
+          (sym (c .before .vector-active .ensures) ∙ not-true (c .before .vector-active .result) (c .if1 .taken)),
+    )
 
 vector-address-requires : tie.Need-vector-address-requires Inv-loop μ-loop
 vector-address-requires c κs =
@@ -88,13 +85,15 @@ unfolding vectorElement
 loop-again-2 c =
     let a = c .before .before .before .before .before .before .before .before .before in
     let l = c .before .before .before .before .before .before .loop in
-    let h = c .before .before .before .before .before .loop-test .taken in
-    (omega arith, omega (arith, l .inv .1),
+    let h = c .before .before .before .before .before .loop-test .taken in (
+      omega arith,
+      omega (arith, l .inv .1),
       λ stored q.
-      scanned-in (vectorActive (a .args .v) (a .args .governing .now)) (vectorElement (a .args .v) (a .args .offsets .now) stored) (a .args .v .count) (a .args .base) (a .args .room) (l .active) (l .e) h (l .inv .2 stored q)
-      (sym (c .before .before .before .before .vector-active .ensures) ∙ not-false (c .before .before .before .before .vector-active .result) (c .before .before .before .if1 .left))
-      (window (a .args .base) (a .args .room) (c .before .before .vector-address .ensures) (bytes-long (a .args .v) (a .args .vb) (a .pre .0) (l .e) h (a .args .offsets .now) stored q)
-      ∙ sym (c .before .inside .ensures) ∙ not-false (c .before .inside .result) (c .if2 .left)))
+          scanned-in (vectorActive (a .args .v) (a .args .governing .now)) (vectorElement (a .args .v) (a .args .offsets .now) stored) (a .args .v .count) (a .args .base) (a .args .room) (l .active) (l .e) h (l .inv .2 stored q)
+          (sym (c .before .before .before .before .vector-active .ensures) ∙ not-false (c .before .before .before .before .vector-active .result) (c .before .before .before .if1 .left))
+          (window (a .args .base) (a .args .room) (c .before .before .vector-address .ensures) (bytes-long (a .args .v) (a .args .vb) (a .pre .0) (l .e) h (a .args .offsets .now) stored q)
+          ∙ sym (c .before .inside .ensures) ∙ not-false (c .before .inside .result) (c .if2 .left)),
+    )
 
 returns-2 : tie.Need-returns-2 Inv-loop μ-loop
 unfolding vectorElements

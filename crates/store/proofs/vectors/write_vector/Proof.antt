@@ -1,7 +1,6 @@
 -- The active elements passed are in memory. Assumes nothing.
 use mathlib.Core.Bool.{true}
 use mathlib.Core.List.{List}
-use native.Mathlib.Nat.{mul-le-mul-left}
 use mathlib.Core.Path.{_≡_, sym, ap, _∙_, subst}
 use Prim.Native.Nat.{ℕ, _+_, _-_, _*_, _/_, _≤_, _<_}
 use native.Mathlib.Omega.{arith}
@@ -12,7 +11,7 @@ use Rattle.elements.specs.Plans.{offsetBytes, vectorActive, vectorElement, vect
 use Rattle.writes.specs.Elements.{Element, over}
 use Rattle.store.proofs.Parts.{part-is, part-length, part-over}
 use Rattle.store.proofs.Walking.{Stored, stored-first, stored-off, stored-on, stored-done, here}
-use Rattle.store.proofs.Spans.{offset-in, bit-in, below-end, bytes-in, bytes-long, few}
+use Rattle.store.proofs.Spans.{offset-in, bit-in, below-end, bytes-in, bytes-long, few, Lies, times, counted-more}
 use Rattle.store.proofs.vectors.write_vector.Statement.{statement}
 use Rattle.store.proofs.vectors.write_vector.Tie as tie
 
@@ -56,10 +55,6 @@ addressed c = c .vector-address .ensures
 long : (c : At) → length (this c .bytes) ≡ st c .args .v .size
 long c = bytes-long (st c .args .v) (st c .args .vb) (st c .pre .0) (e c) (c .before .before .before .loop-test .taken) (st c .args .offsets .now) (st c .args .stored .now) (st c .pre .1 .0 .2)
 
-record Lies (W L a n : ℕ) : Type 0 where
-  low : W ≤ a
-  high : a + n ≤ W + L
-
 lies : (c : At) → Lies (st c .args .base) (length (c .before .before .before .before .loop .memory)) (c .vector-address .result) (st c .args .v .size)
 lies c =
     let l = c .before .before .before .before .loop in
@@ -68,12 +63,6 @@ lies c =
 
 inside-register : (c : At) → e c * st c .args .v .step + st c .args .v .size ≤ st c .args .vb
 inside-register c = bytes-in (st c .args .v) (st c .args .vb) (st c .pre .0) (e c) (c .before .before .before .loop-test .taken)
-
-times : (a b : ℕ) → a ≤ 256 → b ≤ 256 → a * b ≤ 256 * 256
-times a b ha hb = omega (arith, mul-le-mul-left a hb)
-
-next : (k s b : ℕ) → b ≡ k * s → b + s ≡ (k + 1) * s
-next k s b q = omega arith
 
 same : (c : At) (l : List ℕ) → l ≡ take (st c .args .v .size) (drop (e c * st c .args .v .step) (st c .args .stored .now)) → l ≡ this c .bytes
 unfolding vectorElement
@@ -88,9 +77,11 @@ loop-less c = omega arith
 loop-again : tie.Need-loop-again Inv-loop μ-loop
 loop-again c =
     let a = c .before .before .before .before .before .before .before .before .args in
-    let l = c .before .before .before .loop in
-    (l .inv .0, stored-off (vectorActive (a .v) (a .governing .now)) (vectorElement (a .v) (a .offsets .now) (a .stored .now)) (a .v .count) (a .base) (a .memory .now) (l .memory) (l .elements) (l .e) (c .before .before .loop-test .taken) (l .inv .1)
-      (sym (c .before .vector-active .ensures) ∙ not-true (c .before .vector-active .result) (c .if1 .taken)))
+    let l = c .before .before .before .loop in (
+      l .inv .0,
+      stored-off (vectorActive (a .v) (a .governing .now)) (vectorElement (a .v) (a .offsets .now) (a .stored .now)) (a .v .count) (a .base) (a .memory .now) (l .memory) (l .elements) (l .e) (c .before .before .loop-test .taken) (l .inv .1)
+          (sym (c .before .vector-active .ensures) ∙ not-true (c .before .vector-active .result) (c .if1 .taken)),
+    )
 
 vector-address-requires : tie.Need-vector-address-requires Inv-loop μ-loop
 vector-address-requires c κs =
@@ -143,8 +134,8 @@ add-bytes : tie.Need-add-bytes Inv-loop μ-loop
 add-bytes c =
     let a = c .before .before .before .before .before .before .before .before .before .before .before .before .before .before in
     let l = c .before .before .before .before .before .before .before .before .before .loop in
-    let n : l .elements * a .args .v .size ≤ 256 * 256 = omega (arith, times (l .elements) (a .args .v .size) (omega (arith, few (a .args .v) (a .args .vb) (a .pre .0), l .inv .1 .few, l .inv .1 .most)) (omega (arith, inside-register (c .before .before .before .before .before), a .pre .0 .high))) in
-    omega (arith, l .inv .0, inside-register (c .before .before .before .before .before), a .pre .0 .high)
+    let n = times (l .elements) (a .args .v .size) (omega (arith, few (a .args .v) (a .args .vb) (a .pre .0), l .inv .1 .few, l .inv .1 .most)) (omega (arith, inside-register (c .before .before .before .before .before), a .pre .0 .high)) in
+    omega (arith, n, l .inv .0, inside-register (c .before .before .before .before .before), a .pre .0 .high)
 
 add-e-2 : tie.Need-add-e-2 Inv-loop μ-loop
 add-e-2 c = omega (arith, few (c .before .before .before .before .before .before .before .before .before .before .before .before .before .before .args .v) (c .before .before .before .before .before .before .before .before .before .before .before .before .before .before .args .vb) (c .before .before .before .before .before .before .before .before .before .before .before .before .before .before .pre .0))
@@ -159,9 +150,10 @@ loop-again-2 c =
     let l = k .before .before .before .before .loop in
     let t = lies k in
     let q = c .before .before .copy .ensures ∙ part-is (a .stored .now) (e k * a .v .step) (a .v .size) in
-    let m = part-over (l .memory) (k .vector-address .result - a .base) (a .v .size) (c .before .before .copy .last .0) (this k .bytes) (long k) (same k (c .before .before .copy .last .0) q) ∙ ap (λ (n : ℕ). over (l .memory) (n - a .base) (this k .bytes)) (addressed k) in
-    (next (l .elements) (a .v .size) (l .bytes) (l .inv .0),
-      stored-on (vectorActive (a .v) (a .governing .now)) (vectorElement (a .v) (a .offsets .now) (a .stored .now)) (a .v .count) (a .base) (a .memory .now) (l .memory) (l .elements) (l .e) (k .before .before .before .loop-test .taken) (l .inv .1) (active k) _ m)
+    let m = part-over (l .memory) (k .vector-address .result - a .base) (a .v .size) (c .before .before .copy .last .0) (this k .bytes) (long k) (same k (c .before .before .copy .last .0) q) ∙ ap (λ (n : ℕ). over (l .memory) (n - a .base) (this k .bytes)) (addressed k) in (
+      counted-more (l .elements) (a .v .size) (l .bytes) (l .inv .0),
+      stored-on (vectorActive (a .v) (a .governing .now)) (vectorElement (a .v) (a .offsets .now) (a .stored .now)) (a .v .count) (a .base) (a .memory .now) (l .memory) (l .elements) (l .e) (k .before .before .before .loop-test .taken) (l .inv .1) (active k) _ m,
+    )
 
 same-length : tie.Need-same-length Inv-loop μ-loop
 same-length c = c .before .loop .inv .1 .long
