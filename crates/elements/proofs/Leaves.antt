@@ -109,3 +109,13 @@ module _ (v i s n : ℕ) (e : s ≡ lowestSet v) (q : n ≡ countIn v) (h : i < 
           ap₂ (λ (u c : ℕ). leb c (i / u)) same-unit q
           ∙ sym (ap (λ (b : Bool). cond b (ltb (i / unitOf v) (countIn v)) (leb (countIn v) (i / unitOf v))) (le-ltb v (2 ^ 15) l))
           ∙ sym aligned
+
+pub lowest-below : (v : ℕ) → lowestSet v < 4
+unfolding lowestSet
+lowest-below v = go (eqb (v % 2) 1) (eqb (v % 4) 2) (eqb (v % 8) 4)
+  where
+    go : (a b c : Bool) → cond a 0 (cond b 1 (cond c 2 3)) < 4
+    go true b c = omega arith
+    go false true c = omega arith
+    go false false true = omega arith
+    go false false false = omega arith

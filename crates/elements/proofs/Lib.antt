@@ -3,3 +3,4 @@ pub mod Shapes
 pub mod Bits
 pub mod Planning
 pub mod Listing
+pub mod Soundness

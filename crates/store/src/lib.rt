@@ -3,6 +3,11 @@ mod strided;
 mod vectors;
 
 ghost use mathlib.Core.Path.{_≡_};
+ghost use mathlib.Core.Bool.{not};
+ghost use mathlib.Core.List.{List};
+ghost use Rattle.encoding.specs.Classes.{Feature, flag};
+ghost use Rattle.writes.specs.Elements.{Element};
+ghost use Rattle.store.specs.Verdicts.{lengthOk, flagOn, illegal, isSome, stack};
 
 pub struct Flags {
     pub sve: bool,
@@ -37,4 +42,40 @@ pub enum Scan {
 pub struct Counts {
     pub elements: u64,
     pub bytes: u64,
+}
+
+fn length_ok(vb: usize) -> bool
+    ensures { λ r. ⌜ r ≡ lengthOk vb ⌝ }
+{
+    (vb == 16) | (vb == 32) | (vb == 64) | (vb == 128) | (vb == 256)
+}
+
+// Whether the class that needs this flag is off.
+fn is_off(flags: Flags, feature: u32) -> bool
+    ensures { λ r. ⌜ ((x : Feature) → feature ≡ flag x → r ≡ not (flagOn flags x)) ⌝ }
+{
+    if feature == 0 {
+        return !flags.sve;
+    }
+    if feature == 1 {
+        return !flags.sme2;
+    }
+    !flags.sve2p1
+}
+
+// Whether a store of a class that needs this flag is illegal.
+fn is_illegal(flags: Flags, feature: u32) -> bool
+    ensures { λ r. ⌜ ((x : Feature) → feature ≡ flag x → r ≡ illegal flags x) ⌝ }
+{
+    if feature == 1 {
+        return !flags.streaming;
+    }
+    flags.streaming & !flags.fa64
+}
+
+// Whether the stack check refuses a store, by whether its base is SP and it has active elements.
+fn is_stack(flags: Flags, sp: u64, on_stack: bool, some: bool) -> bool
+    ensures { λ r. ⌜ ((xs : List Element) → some ≡ isSome xs → r ≡ stack flags sp «on_stack» xs) ⌝ }
+{
+    on_stack & flags.sp_check & (sp % 16 != 0) & (some | flags.sp_idle)
 }

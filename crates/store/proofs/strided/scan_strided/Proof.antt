@@ -41,11 +41,13 @@ loop-less c = omega arith
 loop-again : tie.Need-loop-again Inv-loop μ-loop
 loop-again c =
     let a = c .before .before .before .before .before .args in
-    let l = c .before .before .before .loop in
-    (omega arith, omega (arith, l .inv .1),
+    let l = c .before .before .before .loop in (
+      omega arith,
+      omega (arith, l .inv .1),
       λ z q.
-      scanned-off (stridedActive (a .s)) (stridedElement (a .s) (a .vb) z) (a .s .nreg * a .s .per) (a .base) (a .room) (l .active) (l .e) (c .before .before .loop-test .taken) (l .inv .2 z q)
-      (sym (c .before .strided-active .ensures) ∙ not-true (c .before .strided-active .result) (c .if1 .taken)))
+          scanned-off (stridedActive (a .s)) (stridedElement (a .s) (a .vb) z) (a .s .nreg * a .s .per) (a .base) (a .room) (l .active) (l .e) (c .before .before .loop-test .taken) (l .inv .2 z q)
+          (sym (c .before .strided-active .ensures) ∙ not-true (c .before .strided-active .result) (c .if1 .taken)),
+    )
 
 strided-address-requires : tie.Need-strided-address-requires Inv-loop μ-loop
 strided-address-requires c κs = strided-below (c .before .before .before .before .before .args .s) (c .before .before .before .before .before .args .vb) (c .before .before .before .before .before .pre) (c .before .before .before .loop .e) (c .before .before .loop-test .taken)
@@ -80,13 +82,15 @@ unfolding stridedElement
 loop-again-2 c =
     let a = c .before .before .before .before .before .before .before .before in
     let l = c .before .before .before .before .before .before .loop in
-    let h = c .before .before .before .before .before .loop-test .taken in
-    (omega arith, omega (arith, l .inv .1),
+    let h = c .before .before .before .before .before .loop-test .taken in (
+      omega arith,
+      omega (arith, l .inv .1),
       λ z q.
-      scanned-in (stridedActive (a .args .s)) (stridedElement (a .args .s) (a .args .vb) z) (a .args .s .nreg * a .args .s .per) (a .args .base) (a .args .room) (l .active) (l .e) h (l .inv .2 z q)
-      (sym (c .before .before .before .before .strided-active .ensures) ∙ not-false (c .before .before .before .before .strided-active .result) (c .before .before .before .if1 .left))
-      (window (a .args .base) (a .args .room) (c .before .before .strided-address .ensures) (strided-long (a .args .s) (a .args .vb) (a .pre) (l .e) h z q)
-      ∙ sym (c .before .inside .ensures) ∙ not-false (c .before .inside .result) (c .if2 .left)))
+          scanned-in (stridedActive (a .args .s)) (stridedElement (a .args .s) (a .args .vb) z) (a .args .s .nreg * a .args .s .per) (a .args .base) (a .args .room) (l .active) (l .e) h (l .inv .2 z q)
+          (sym (c .before .before .before .before .strided-active .ensures) ∙ not-false (c .before .before .before .before .strided-active .result) (c .before .before .before .if1 .left))
+          (window (a .args .base) (a .args .room) (c .before .before .strided-address .ensures) (strided-long (a .args .s) (a .args .vb) (a .pre) (l .e) h z q)
+          ∙ sym (c .before .inside .ensures) ∙ not-false (c .before .inside .result) (c .if2 .left)),
+    )
 
 returns-2 : tie.Need-returns-2 Inv-loop μ-loop
 unfolding stridedElements

@@ -89,9 +89,11 @@ loop-less c = omega arith
 loop-again : tie.Need-loop-again Inv-loop μ-loop
 loop-again c =
     let a = c .before .before .before .before .before .before .before .args in
-    let l = c .before .before .before .loop in
-    (l .inv .0, stored-off (stridedActive (a .s)) (stridedElement (a .s) (a .vb) (a .z .now)) (a .s .nreg * a .s .per) (a .base) (a .memory .now) (l .memory) (l .elements) (l .e) (c .before .before .loop-test .taken) (l .inv .1)
-      (sym (c .before .strided-active .ensures) ∙ not-true (c .before .strided-active .result) (c .if1 .taken)))
+    let l = c .before .before .before .loop in (
+      l .inv .0,
+      stored-off (stridedActive (a .s)) (stridedElement (a .s) (a .vb) (a .z .now)) (a .s .nreg * a .s .per) (a .base) (a .memory .now) (l .memory) (l .elements) (l .e) (c .before .before .loop-test .taken) (l .inv .1)
+          (sym (c .before .strided-active .ensures) ∙ not-true (c .before .strided-active .result) (c .if1 .taken)),
+    )
 
 strided-address-requires : tie.Need-strided-address-requires Inv-loop μ-loop
 strided-address-requires c κs = strided-below (c .before .before .before .before .before .before .before .args .s) (c .before .before .before .before .before .before .before .args .vb) (c .before .before .before .before .before .before .before .pre .0) (c .before .before .before .loop .e) (c .before .before .loop-test .taken)
@@ -178,9 +180,10 @@ loop-again-2 c =
     let r = c .before .before .before .before .before .register-of in
     let from = e k % a .s .per * a .s .step in
     let q = c .before .before .copy .ensures ∙ part-is (r .result .now) from (a .s .size) ∙ ap (λ (x : List ℕ). take (a .s .size) (drop from x)) (r .ensures) in
-    let m = part-over (l .memory) (k .strided-address .result - a .base) (a .s .size) (c .before .before .copy .last .0) (this k .bytes) (long k) (same k (c .before .before .copy .last .0) q) ∙ ap (λ (n : ℕ). over (l .memory) (n - a .base) (this k .bytes)) (addressed k) in
-    (counted-more (l .elements) (a .s .size) (l .bytes) (l .inv .0),
-      stored-on (stridedActive (a .s)) (stridedElement (a .s) (a .vb) (a .z .now)) (a .s .nreg * a .s .per) (a .base) (a .memory .now) (l .memory) (l .elements) (l .e) (below k) (l .inv .1) (active k) _ m)
+    let m = part-over (l .memory) (k .strided-address .result - a .base) (a .s .size) (c .before .before .copy .last .0) (this k .bytes) (long k) (same k (c .before .before .copy .last .0) q) ∙ ap (λ (n : ℕ). over (l .memory) (n - a .base) (this k .bytes)) (addressed k) in (
+      counted-more (l .elements) (a .s .size) (l .bytes) (l .inv .0),
+      stored-on (stridedActive (a .s)) (stridedElement (a .s) (a .vb) (a .z .now)) (a .s .nreg * a .s .per) (a .base) (a .memory .now) (l .memory) (l .elements) (l .e) (below k) (l .inv .1) (active k) _ m,
+    )
 
 same-length : tie.Need-same-length Inv-loop μ-loop
 same-length c = c .before .loop .inv .1 .long

@@ -1,0 +1,89 @@
+-- The plan of a store that isn't refused is sound on a machine with registers of vb bytes. Assumes nothing.
+use mathlib.Core.Path.{_≡_, refl, sym, ap, _∙_, subst}
+use Prim.Native.Nat.{ℕ, zero, suc, _+_, _-_, _*_, _/_, _%_, _≤_, _<_}
+use native.Mathlib.Nat.{div-mul-le-self, mul-div-mul-right, le-div-iff-mul-le, suc-mul}
+use native.Mathlib.Omega.{arith}
+use Rattle.encoding.specs.Classes.{Class}
+use Rattle.encoding.specs.Encoding.{classFor}
+use Rattle.encoding.specs.declared.ScatterFields.{ScatterFields}
+use Rattle.encoding.specs.declared.StridedFields.{StridedFields}
+use Rattle.encoding.specs.declared.QuadwordFields.{QuadwordFields}
+use Rattle.encoding.specs.declared.Store.the-variants.{Scatter, Strided, Quadword}
+use Rattle.writes.specs.LittleEndian.{leVal}
+use Rattle.elements.specs.Machine.{Machine, predicate}
+use Rattle.elements.specs.Counter.{lowestSet, countIn}
+use Rattle.elements.specs.Stores.{stepOf, sizeOf, perRegister, strideOf}
+use Rattle.elements.specs.Plans.{VectorSound, StridedSound, scatterPlan, quadwordPlan, stridedPlan}
+use Rattle.elements.proofs.Leaves.{lowest-below}
+use Rattle.elements.proofs.Shapes.{ScatterIn, QuadwordIn, StridedIn}
+
+module _ (m : Machine) (c : Class) (e : c .esize / 8 * 8 ≡ c .esize) where
+  per-step : perRegister m c ≡ m .vb / stepOf c
+  per-step = ap (λ (n : ℕ). m .vb * 8 / n) (sym e) ∙ mul-div-mul-right (m .vb) (stepOf c) (omega arith)
+
+  per-whole : perRegister m c * stepOf c ≤ m .vb
+  per-whole = subst (λ (n : ℕ). n * stepOf c ≤ m .vb) (sym per-step) (div-mul-le-self (m .vb) (stepOf c))
+
+  per-some : 16 ≤ m .vb → stepOf c ≤ 16 → 1 ≤ stepOf c → 0 < perRegister m c
+  per-some l h k = subst (λ (n : ℕ). 0 < n) (sym per-step) (some (m .vb) (stepOf c) k (omega arith))
+    where
+      some : (a b : ℕ) → 1 ≤ b → b ≤ a → 0 < a / b
+      some a b h k = le-div-iff-mul-le h .1 (omega arith)
+
+module _ (m : Machine) (low : 16 ≤ m .vb) (high : m .vb ≤ 256) (sixteen : m .vb % 16 ≡ 0) where
+  pub scatter-sound : (f : ScatterFields) → ScatterIn f (classFor (Scatter f)) → VectorSound (scatterPlan m (classFor (Scatter f)) f) (m .vb)
+  scatter-sound f s =
+      record {
+        scale = omega (arith, s .small .scale);
+        offset = s .offset;
+        some = s .small .size .0;
+        size = s .small .size .1;
+        whole = per-whole m (classFor (Scatter f)) (s .eight);
+        low = low;
+        high = high;
+        eighth = omega arith;
+        offsets = s .zm;
+        governing = omega (arith, s .pg);
+        stored = s .zt;
+      }
+
+  pub quadword-sound : (f : QuadwordFields) → QuadwordIn f (classFor (Quadword f)) → VectorSound (quadwordPlan m (classFor (Quadword f)) f) (m .vb)
+  quadword-sound f s =
+      record {
+        scale = omega arith;
+        offset = omega (arith, s .sixteen);
+        some = s .small .size .0;
+        size = s .small .size .1;
+        whole = per-whole m (classFor (Quadword f)) (s .eight);
+        low = low;
+        high = high;
+        eighth = omega arith;
+        offsets = s .zn;
+        governing = omega (arith, s .pg);
+        stored = s .zt;
+      }
+
+  pub strided-sound : (f : StridedFields) → StridedIn f (classFor (Strided f)) → StridedSound (stridedPlan m (classFor (Strided f)) f) (m .vb)
+  strided-sound f s =
+      let c = classFor (Strided f) in
+      record {
+        shift = refl;
+        counted = refl;
+        four = lowest-below _;
+        some = s .small .size .0;
+        size = s .small .size .1;
+        whole = per-whole m c (s .eight);
+        per = per-some m c (s .eight) low (s .small .step .1) (s .small .step .0);
+        nreg = s .small .nreg;
+        high = high;
+        last = registers (c .nreg) (strideOf c) (f .first) (s .nreg) (s .registers) (s .first) (s .zt);
+      }
+    where
+      less : (n d : ℕ) → 0 < n → (n - 1) * d + d ≡ n * d
+      less zero d h = absurd (omega arith)
+      less (suc n) d h =
+          let q : suc n - 1 ≡ n = omega arith in
+          ap (λ (k : ℕ). k * d + d) q ∙ sym (suc-mul n d)
+
+      registers : (n d r : ℕ) → 0 < n → n * d ≡ 16 → r / 16 < 2 → r % 16 < d → r + (n - 1) * d < 32
+      registers n d r h q a b = omega (arith, less n d h)
