@@ -88,7 +88,7 @@ fields-told : (b : Bool) (x : ℕ) → cond b Fields (Word x) ≡ Fields → b �
 fields-told true x e = refl
 fields-told false x e = let z : _≡_ {A = ℕ} 0 1 = cc in absurd (omega arith)
 
-one-of : (a b c d e : Bool) → a || b || c || d || e ≡ true → (a ≡ true) ⊎ ((b ≡ true) ⊎ ((c ≡ true) ⊎ ((d ≡ true) ⊎ (e ≡ true))))
+pub one-of : (a b c d e : Bool) → a || b || c || d || e ≡ true → (a ≡ true) ⊎ ((b ≡ true) ⊎ ((c ≡ true) ⊎ ((d ≡ true) ⊎ (e ≡ true))))
 one-of true b c d e h = inl refl
 one-of false true c d e h = inr (inl refl)
 one-of false false true d e h = inr (inr (inl refl))

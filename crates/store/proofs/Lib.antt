@@ -1,3 +1,4 @@
 pub mod Walking
 pub mod Spans
 pub mod Parts
+pub mod Concluding

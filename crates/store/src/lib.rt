@@ -1,4 +1,5 @@
 // Running a store over a lent machine and a lent window.
+mod stores;
 mod strided;
 mod vectors;
 
@@ -7,7 +8,9 @@ ghost use mathlib.Core.Bool.{not};
 ghost use mathlib.Core.List.{List};
 ghost use Rattle.encoding.specs.Classes.{Feature, flag};
 ghost use Rattle.writes.specs.Elements.{Element};
-ghost use Rattle.store.specs.Verdicts.{lengthOk, flagOn, illegal, isSome, stack};
+ghost use Rattle.elements.specs.Machine.{machine};
+ghost use Rattle.store.specs.Verdicts.{lengthOk, flagOn, illegal, isSome, stack, Ran};
+use encoding::Decoded;
 
 pub struct Flags {
     pub sve: bool,
@@ -78,4 +81,36 @@ fn is_stack(flags: Flags, sp: u64, on_stack: bool, some: bool) -> bool
     ensures { λ r. ⌜ ((xs : List Element) → some ≡ isSome xs → r ≡ stack flags sp «on_stack» xs) ⌝ }
 {
     on_stack & flags.sp_check & (sp % 16 != 0) & (some | flags.sp_idle)
+}
+
+// Runs the store that a word is, on the lent machine and window.
+pub fn run(
+    vb: usize,
+    flags: Flags,
+    x: &[u64; 31],
+    sp: u64,
+    z: &[u8],
+    p: &[u8],
+    base: u64,
+    memory: &mut [u8],
+    word: u32,
+) -> Verdict
+    ensures { λ r. ⌜ Ran flags (machine vb (now (x .entry)) sp (now (z .entry)) (now (p .entry))) base (now (memory .entry)) word r (now (memory .exit)) ⌝ }
+{
+    if !length_ok(vb) {
+        return Verdict::Length;
+    }
+    if z.len() != 32 * vb {
+        return Verdict::Registers;
+    }
+    if p.len() != 2 * vb {
+        return Verdict::Registers;
+    }
+    if !writes::window_ok(base, memory.len()) {
+        return Verdict::Window;
+    }
+    match encoding::decode(word) {
+        Decoded::Known(store) => stores::run_store(store, flags, vb, x, sp, z, p, base, memory),
+        Decoded::Undefined => Verdict::Undefined,
+    }
 }

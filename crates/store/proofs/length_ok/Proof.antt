@@ -1,11 +1,12 @@
+-- The five. Assumes nothing.
+use mathlib.Core.Path.{refl}
+use Rattle.store.specs.Verdicts.{lengthOk}
 use Rattle.store.proofs.length_ok.Statement.{statement}
 use Rattle.store.proofs.length_ok.Tie as tie
-use Rattle.store.proofs.length_ok.Reads as reads
-use Rattle.store.proofs.length_ok.Lts as lts
 
--- src/lib.rt:47:1
 returns : tie.Need-returns
-returns c = ?
+unfolding lengthOk
+returns c = refl
 
 pub length-ok-spec : {M : Type 1} → statement M
 length-ok-spec = tie.close (tie.spec returns)
