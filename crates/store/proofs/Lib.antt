@@ -2,3 +2,4 @@ pub mod Walking
 pub mod Spans
 pub mod Parts
 pub mod Concluding
+pub mod Running

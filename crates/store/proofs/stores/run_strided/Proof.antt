@@ -43,9 +43,11 @@ is-stack-requires c κs = search needs
 returns : tie.Need-returns
 returns c =
     let k = c .before .before .before .before .before in
-    let a = st k .args in
-    (settled-stack (a .flags) (a .sp) (a .on-stack) (a .base) (length (a .memory .now)) (a .s .size) (xs k) (c .before .is-stack .result)
-      (c .before .is-stack .ensures (xs k) (left k (c .before .before .before .scan .given .0 .0) (c .before .before .before .scan .given .0 .1 .0) (c .before .before .before .scan .given .1) .there)) (c .if1 .taken), refl)
+    let a = st k .args in (
+      settled-stack (a .flags) (a .sp) (a .on-stack) (a .base) (length (a .memory .now)) (a .s .size) (xs k) (c .before .is-stack .result)
+          (c .before .is-stack .ensures (xs k) (left k (c .before .before .before .scan .given .0 .0) (c .before .before .before .scan .given .0 .1 .0) (c .before .before .before .scan .given .1) .there)) (c .if1 .taken),
+      refl,
+    )
 
 enum-known-scan-2 : tie.Need-enum-known-scan-2
 enum-known-scan-2 c = search needs
@@ -56,9 +58,11 @@ is-stack-requires-2 c κs = search needs
 returns-2 : tie.Need-returns-2
 returns-2 c =
     let k = c .before .before .before .before .before in
-    let a = st k .args in
-    (settled-stack (a .flags) (a .sp) (a .on-stack) (a .base) (length (a .memory .now)) (a .s .size) (xs k) (c .before .is-stack2 .result)
-      (c .before .is-stack2 .ensures (xs k) (some-active (c .before .before .before .scan2 .given .0 .0) (xs k) (cleared k (c .before .before .before .scan2 .given .0 .0) (c .before .before .before .scan2 .given .1) .total ∙ zero-add (length (xs k))))) (c .if2 .taken), refl)
+    let a = st k .args in (
+      settled-stack (a .flags) (a .sp) (a .on-stack) (a .base) (length (a .memory .now)) (a .s .size) (xs k) (c .before .is-stack2 .result)
+          (c .before .is-stack2 .ensures (xs k) (some-active (c .before .before .before .scan2 .given .0 .0) (xs k) (cleared k (c .before .before .before .scan2 .given .0 .0) (c .before .before .before .scan2 .given .1) .total ∙ zero-add (length (xs k))))) (c .if2 .taken),
+      refl,
+    )
 
 write-strided-requires : tie.Need-write-strided-requires
 write-strided-requires c κs =
@@ -69,9 +73,11 @@ returns-3 : tie.Need-returns-3
 returns-3 c =
     let k = c .before .before .before .before .before in
     let a = st k .args in
-    let l = left k (c .before .before .before .scan .given .0 .0) (c .before .before .before .scan .given .0 .1 .0) (c .before .before .before .scan .given .1) in
-    (settled-fault (a .flags) (a .sp) (a .on-stack) (a .base) (length (a .memory .now)) (a .s .size) (xs k) (c .before .is-stack .result)
-      (c .before .is-stack .ensures (xs k) (l .there)) (c .if1 .left) (c .before .before .before .scan .given .0 .0) (c .before .before .before .scan .given .0 .1 .0) l, refl)
+    let l = left k (c .before .before .before .scan .given .0 .0) (c .before .before .before .scan .given .0 .1 .0) (c .before .before .before .scan .given .1) in (
+      settled-fault (a .flags) (a .sp) (a .on-stack) (a .base) (length (a .memory .now)) (a .s .size) (xs k) (c .before .is-stack .result)
+          (c .before .is-stack .ensures (xs k) (l .there)) (c .if1 .left) (c .before .before .before .scan .given .0 .0) (c .before .before .before .scan .given .0 .1 .0) l,
+      refl,
+    )
 
 same-length : tie.Need-same-length
 same-length c = search needs
@@ -81,9 +87,11 @@ returns-4 c =
     let k = c .before .before .before .before .before .before .before .before .before in
     let a = st k .args in
     let w = c .before .before .write-strided in
-    let l = cleared k (c .before .before .before .before .before .before .before .scan2 .given .0 .0) (c .before .before .before .before .before .before .before .scan2 .given .1) in
-    (settled-done (a .flags) (a .sp) (a .on-stack) (a .base) (length (a .memory .now)) (a .s .size) (xs k) (c .before .before .before .before .before .is-stack2 .result)
-      (c .before .before .before .before .before .is-stack2 .ensures (xs k) (some-active (c .before .before .before .before .before .before .before .scan2 .given .0 .0) (xs k) (l .total ∙ zero-add (length (xs k))))) (c .before .before .before .before .if2 .left) (c .before .before .before .before .before .before .before .scan2 .given .0 .0) (w .result .elements) (w .result .bytes) l (w .ensures .0) (w .ensures .1 .0), w .ensures .1 .1)
+    let l = cleared k (c .before .before .before .before .before .before .before .scan2 .given .0 .0) (c .before .before .before .before .before .before .before .scan2 .given .1) in (
+      settled-done (a .flags) (a .sp) (a .on-stack) (a .base) (length (a .memory .now)) (a .s .size) (xs k) (c .before .before .before .before .before .is-stack2 .result)
+          (c .before .before .before .before .before .is-stack2 .ensures (xs k) (some-active (c .before .before .before .before .before .before .before .scan2 .given .0 .0) (xs k) (l .total ∙ zero-add (length (xs k))))) (c .before .before .before .before .if2 .left) (c .before .before .before .before .before .before .before .scan2 .given .0 .0) (w .result .elements) (w .result .bytes) l (w .ensures .0) (w .ensures .1 .0),
+      w .ensures .1 .1,
+    )
 
 pub run-strided-spec : {M : Type 1} → statement M
 run-strided-spec =

@@ -76,9 +76,11 @@ is-stack-requires c κs = search needs
 returns : tie.Need-returns
 returns c =
     let k = c .before .before .before .before .before in
-    let a = st k .args in
-    (settled-stack (a .flags) (a .sp) (a .on-stack) (a .base) (length (a .memory .now)) (a .v .size) (xs k) (c .before .is-stack .result)
-      (c .before .is-stack .ensures (xs k) (left k (c .before .before .before .scan .given .0 .0) (c .before .before .before .scan .given .0 .1 .0) (c .before .before .before .scan .given .1) .there)) (c .if1 .taken), refl)
+    let a = st k .args in (
+      settled-stack (a .flags) (a .sp) (a .on-stack) (a .base) (length (a .memory .now)) (a .v .size) (xs k) (c .before .is-stack .result)
+          (c .before .is-stack .ensures (xs k) (left k (c .before .before .before .scan .given .0 .0) (c .before .before .before .scan .given .0 .1 .0) (c .before .before .before .scan .given .1) .there)) (c .if1 .taken),
+      refl,
+    )
 
 enum-known-scan-2 : tie.Need-enum-known-scan-2
 enum-known-scan-2 c = search needs
@@ -89,9 +91,11 @@ is-stack-requires-2 c κs = search needs
 returns-2 : tie.Need-returns-2
 returns-2 c =
     let k = c .before .before .before .before .before in
-    let a = st k .args in
-    (settled-stack (a .flags) (a .sp) (a .on-stack) (a .base) (length (a .memory .now)) (a .v .size) (xs k) (c .before .is-stack2 .result)
-      (c .before .is-stack2 .ensures (xs k) (some-active (c .before .before .before .scan2 .given .0 .0) (xs k) (cleared k (c .before .before .before .scan2 .given .0 .0) (c .before .before .before .scan2 .given .1) .total ∙ zero-add (length (xs k))))) (c .if2 .taken), refl)
+    let a = st k .args in (
+      settled-stack (a .flags) (a .sp) (a .on-stack) (a .base) (length (a .memory .now)) (a .v .size) (xs k) (c .before .is-stack2 .result)
+          (c .before .is-stack2 .ensures (xs k) (some-active (c .before .before .before .scan2 .given .0 .0) (xs k) (cleared k (c .before .before .before .scan2 .given .0 .0) (c .before .before .before .scan2 .given .1) .total ∙ zero-add (length (xs k))))) (c .if2 .taken),
+      refl,
+    )
 
 register-of-requires-3 : tie.Need-register-of-requires-3
 register-of-requires-3 c κs = z-room (c .before .before .before .before .before .before .before .before .before .before .before) (c .before .before .before .before .before .before .before .before .before .before .before .args .v .stored) (c .before .before .before .before .before .before .before .before .before .before .before .pre .0 .stored)
@@ -102,18 +106,23 @@ write-vector-requires c κs =
     let a = st k in
     let o = k .before .before .register-of .ensures in
     let g = k .before .register-of2 .ensures in
-    let t = c .before .register-of3 .ensures in
-    (a .pre .0,
-      ((ap length o ∙ z-long a (a .args .v .offsets) (a .pre .0 .offsets), ap length g ∙ p-long a (a .args .v .governing) (a .pre .0 .governing), ap length t ∙ z-long a (a .args .v .stored) (a .pre .0 .stored)),
-      subst (InWindow (a .args .base) (length (a .args .memory .now))) (sym (named k (c .before .register-of3 .result .now) t)) (cleared k (c .before .before .before .before .before .scan2 .given .0 .0) (c .before .before .before .before .before .scan2 .given .1) .inside)))
+    let t = c .before .register-of3 .ensures in (
+      a .pre .0,
+      (
+        (ap length o ∙ z-long a (a .args .v .offsets) (a .pre .0 .offsets), ap length g ∙ p-long a (a .args .v .governing) (a .pre .0 .governing), ap length t ∙ z-long a (a .args .v .stored) (a .pre .0 .stored)),
+        subst (InWindow (a .args .base) (length (a .args .memory .now))) (sym (named k (c .before .register-of3 .result .now) t)) (cleared k (c .before .before .before .before .before .scan2 .given .0 .0) (c .before .before .before .before .before .scan2 .given .1) .inside),
+      ),
+    )
 
 returns-3 : tie.Need-returns-3
 returns-3 c =
     let k = c .before .before .before .before .before in
     let a = st k .args in
-    let l = left k (c .before .before .before .scan .given .0 .0) (c .before .before .before .scan .given .0 .1 .0) (c .before .before .before .scan .given .1) in
-    (settled-fault (a .flags) (a .sp) (a .on-stack) (a .base) (length (a .memory .now)) (a .v .size) (xs k) (c .before .is-stack .result)
-      (c .before .is-stack .ensures (xs k) (l .there)) (c .if1 .left) (c .before .before .before .scan .given .0 .0) (c .before .before .before .scan .given .0 .1 .0) l, refl)
+    let l = left k (c .before .before .before .scan .given .0 .0) (c .before .before .before .scan .given .0 .1 .0) (c .before .before .before .scan .given .1) in (
+      settled-fault (a .flags) (a .sp) (a .on-stack) (a .base) (length (a .memory .now)) (a .v .size) (xs k) (c .before .is-stack .result)
+          (c .before .is-stack .ensures (xs k) (l .there)) (c .if1 .left) (c .before .before .before .scan .given .0 .0) (c .before .before .before .scan .given .0 .1 .0) l,
+      refl,
+    )
 
 same-length : tie.Need-same-length
 same-length c = search needs
@@ -124,10 +133,12 @@ returns-4 c =
     let a = st k .args in
     let w = c .before .before .write-vector in
     let q = named k (c .before .before .before .before .register-of3 .result .now) (c .before .before .before .before .register-of3 .ensures) in
-    let l = cleared k (c .before .before .before .before .before .before .before .before .scan2 .given .0 .0) (c .before .before .before .before .before .before .before .before .scan2 .given .1) in
-    (settled-done (a .flags) (a .sp) (a .on-stack) (a .base) (length (a .memory .now)) (a .v .size) (xs k) (c .before .before .before .before .before .before .is-stack2 .result)
-      (c .before .before .before .before .before .before .is-stack2 .ensures (xs k) (some-active (c .before .before .before .before .before .before .before .before .scan2 .given .0 .0) (xs k) (l .total ∙ zero-add (length (xs k))))) (c .before .before .before .before .before .if2 .left) (c .before .before .before .before .before .before .before .before .scan2 .given .0 .0) (w .result .elements) (w .result .bytes) l
-      (w .ensures .0 ∙ ap length q) (w .ensures .1 .0 ∙ ap (λ (y : List Element). length y * a .v .size) q), w .ensures .1 .1 ∙ ap (written (a .base) (a .memory .now)) q)
+    let l = cleared k (c .before .before .before .before .before .before .before .before .scan2 .given .0 .0) (c .before .before .before .before .before .before .before .before .scan2 .given .1) in (
+      settled-done (a .flags) (a .sp) (a .on-stack) (a .base) (length (a .memory .now)) (a .v .size) (xs k) (c .before .before .before .before .before .before .is-stack2 .result)
+          (c .before .before .before .before .before .before .is-stack2 .ensures (xs k) (some-active (c .before .before .before .before .before .before .before .before .scan2 .given .0 .0) (xs k) (l .total ∙ zero-add (length (xs k))))) (c .before .before .before .before .before .if2 .left) (c .before .before .before .before .before .before .before .before .scan2 .given .0 .0) (w .result .elements) (w .result .bytes) l
+          (w .ensures .0 ∙ ap length q) (w .ensures .1 .0 ∙ ap (λ (y : List Element). length y * a .v .size) q),
+      w .ensures .1 .1 ∙ ap (written (a .base) (a .memory .now)) q,
+    )
 
 pub run-vector-spec : {M : Type 1} → statement M
 run-vector-spec =
