@@ -3,7 +3,7 @@
 ghost use mathlib.Core.Path.{_≡_};
 ghost use mathlib.Core.List.{_∷_, []};
 ghost use mir.Syntax.{w64};
-ghost use mir.Val.{toZ, ofZ};
+ghost use mir.Val.{toZ};
 ghost use Rattle.encoding.specs.Classes.{Feature, SVE, SME2, SVE2p1, flag};
 ghost use Rattle.encoding.specs.Answers.{extensionNumber, storeNumbers};
 ghost use Rattle.starshackle.specs.Codec.{entry, extensionGiven, storeGiven, misgiven, encodeGiven, narrow, Narrow};
@@ -13,17 +13,6 @@ use encoding::QuadwordFields;
 use encoding::ScatterFields;
 use encoding::Store;
 use encoding::StridedFields;
-
-// The 64 bits of a signed number.
-fn bits_of(z: i64) -> u64
-    ensures { λ r. ⌜ r ≡ ofZ w64 z ⌝ }
-{
-    if 0 <= z {
-        z as u64
-    } else {
-        u64::MAX - (!z) as u64
-    }
-}
 
 // 64 bits, read as signed.
 fn signed_of(bits: u64) -> i64
@@ -100,7 +89,7 @@ pub fn numbers_of(store: Store) -> [u64; 8]
             let extension = f.extension;
             scatter_numbers(f, number_of(extension))
         }
-        Store::Strided(f) => strided_numbers(f, bits_of(f.multiple)),
+        Store::Strided(f) => strided_numbers(f, elements::bits_of(f.multiple)),
         Store::Quadword(f) => quadword_numbers(f),
     }
 }

@@ -1,15 +1,23 @@
 // The interface for C and Rust: thin functions over the proved crates. The result is the verdict's number; other numbers go into
 // an array that the caller lends.
 mod codec;
+mod running;
 
 ghost use mathlib.Core.Path.{_≡_};
 ghost use Rattle.encoding.specs.Answers.{decodedNumber, decodedNumbers, encodedNumber};
 ghost use Rattle.encoding.specs.Decoding.{decodeOf};
+ghost use lib.ListN.{length};
+ghost use Rattle.elements.specs.Machine.{machine};
+ghost use Rattle.store.specs.Verdicts.{verdictOf, elementsFor, memoryAfter, number, numbers};
 ghost use Rattle.starshackle.specs.Codec.{encodeGiven, encodedAnswers};
+ghost use Rattle.starshackle.specs.Running.{flagsOf};
 use codec::encode_given;
 use codec::numbers_of;
 use encoding::Decoded;
 use encoding::Encoded;
+use running::answers_of;
+use running::flags_of;
+use running::number_of;
 
 // What a word is: 0 and its store as eight numbers, or 4 and zeros.
 #[no_mangle]
@@ -45,4 +53,28 @@ pub extern "C" fn starshackle_encode(fields: &[u64; 8], answer: &mut [u64; 5]) -
             11
         }
     }
+}
+
+// Runs the store that a word is: 0 with active elements and bytes in answers 2 and 3, or a refusal, 7 with the element and its
+// address in answers 0 and 1.
+#[no_mangle]
+pub extern "C" fn starshackle_run(
+    vb: usize,
+    flags: u64,
+    x: &[u64; 31],
+    sp: u64,
+    z: &[u8],
+    p: &[u8],
+    base: u64,
+    memory: &mut [u8],
+    word: u32,
+    answer: &mut [u64; 5],
+) -> u64
+    ensures number { λ r. ⌜ r ≡ number (verdictOf (flagsOf flags) (machine vb (now (x .entry)) sp (now (z .entry)) (now (p .entry))) base (length (now (memory .entry))) word) ⌝ }
+    ensures answers { λ _. ⌜ now (answer .exit) ≡ numbers (verdictOf (flagsOf flags) (machine vb (now (x .entry)) sp (now (z .entry)) (now (p .entry))) base (length (now (memory .entry))) word) ⌝ }
+    ensures memory { λ _. ⌜ now (memory .exit) ≡ memoryAfter (verdictOf (flagsOf flags) (machine vb (now (x .entry)) sp (now (z .entry)) (now (p .entry))) base (length (now (memory .entry))) word) base (now (memory .entry)) (elementsFor (machine vb (now (x .entry)) sp (now (z .entry)) (now (p .entry))) (decodeOf word)) ⌝ }
+{
+    let v = store::run(vb, flags_of(flags), x, sp, z, p, base, memory, word);
+    *answer = answers_of(v);
+    number_of(v)
 }
