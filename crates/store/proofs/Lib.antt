@@ -3,3 +3,4 @@ pub mod Spans
 pub mod Parts
 pub mod Concluding
 pub mod Running
+pub mod Cases

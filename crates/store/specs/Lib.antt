@@ -2,3 +2,4 @@
 pub mod Scanning
 pub mod Verdicts
 pub mod Steps
+pub mod Cases
