@@ -4,3 +4,4 @@ pub mod Parts
 pub mod Concluding
 pub mod Running
 pub mod Cases
+pub mod Statements

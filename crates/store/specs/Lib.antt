@@ -3,3 +3,4 @@ pub mod Scanning
 pub mod Verdicts
 pub mod Steps
 pub mod Cases
+pub mod Statements

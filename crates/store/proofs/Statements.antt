@@ -1,0 +1,211 @@
+-- The proofs of specs/Statements.antt, each of exactly the type that stands there. Assumes nothing.
+use mathlib.Core.Path.{_≡_, refl, sym, ap, ap₂, _∙_, subst}
+use mathlib.Core.Bool.{Bool, true, false, not, cond}
+use mathlib.Core.List.{List, [], _∷_}
+use mathlib.Core.Option.{Option, none, some}
+use Prim.Native.Nat.{ℕ, zero, suc, _+_, _-_, _*_, _/_, _%_, _≤_, _<_}
+use native.Mathlib.Nat.{one-mul, mul-le-mul-right}
+use native.Mathlib.Omega.{arith}
+use lib.ListN.{length, getD, take, drop, length-take, length-drop}
+use lib.Seq.{getD-take, getD-drop, drop-drop}
+use Rattle.encoding.specs.Decoding.{decodeOf}
+use Rattle.encoding.specs.Encoding.{classFor, featureOf, refused}
+use Rattle.encoding.specs.declared.Decoded.{Decoded}
+use Rattle.encoding.specs.declared.Decoded.the-variants as D
+use Rattle.encoding.specs.declared.Store.{Store}
+use Rattle.encoding.specs.declared.Store.the-variants.{Scatter, Strided, Quadword}
+use Rattle.writes.specs.Elements.{Element, InWindow, lastAt, written, netEffect}
+use Rattle.writes.specs.Sets.{byteOr, overlay}
+use Rattle.writes.specs.Window.{windowOk, inWindow}
+use Rattle.writes.proofs.Overlay.{length-overlay, getD-overlay}
+use Rattle.writes.proofs.Statements.{laid-as-written, written-last}
+use Rattle.writes.proofs.Windows.{in-window-inv}
+use Rattle.elements.specs.Machine.{Machine, register}
+use Rattle.elements.specs.Stores.{sizeOf, stepOf, perRegister, countOf, registerIn, placeIn}
+use Rattle.elements.specs.Elements.{activeAt, elementAt, actives, elements}
+use Rattle.elements.specs.Plans.{scatterPlan, quadwordPlan, stridedPlan}
+use Rattle.elements.proofs.Planning.{register-in, register-long}
+use Rattle.elements.proofs.Shapes.{scatter-in, quadword-in, strided-in}
+use Rattle.elements.proofs.Soundness.{scatter-sound, quadword-sound, strided-sound}
+use Rattle.store.specs.Steps.{Sound}
+use Rattle.store.specs.Verdicts.{lengthOk, registersOk, flagOn, illegal, onStack, stack, firstOutside, concluded, settled, verdictFor, verdictOf, elementsFor, memoryAfter, number, Ran}
+use Rattle.store.specs.Statements.{OneOutcome, RefusalsLeaveMemory, PlaceByPlace, Rising, InAscendingOrder, CountsOfDone, ElementBytes, undefinedIs, illegalIs, stackIs, faultIs, isOutside, onward, firstHolding, FirstConditionDecides}
+use Rattle.store.specs.declared.Flags.{Flags}
+use Rattle.store.specs.declared.Verdict.{Verdict}
+use Rattle.store.specs.declared.Verdict.the-variants.{Done, Length, Registers, Window, Undefined, Illegal, Stack, Fault}
+use Rattle.store.proofs.Spans.{bytes-in, place-in, register-below}
+
+-- ---- demand 1
+
+pub one-outcome : OneOutcome
+one-outcome f m W mem word =
+    let v = verdictOf f m W (length mem) word in
+    ((v, (memoryAfter v W mem (elementsFor m (decodeOf word)), record { answer = refl; memory = refl })),
+      (λ v₁ v₂ m₁ m₂ r s.
+        let q = r .answer ∙ sym (s .answer) in
+        (q, r .memory ∙ ap (λ (y : Verdict). memoryAfter y W mem (elementsFor m (decodeOf word))) q ∙ sym (s .memory))))
+
+kept : (v : Verdict) (W : ℕ) (mem : List ℕ) (xs : List Element) → (number v ≡ 0 → ⊥) → memoryAfter v W mem xs ≡ mem
+kept (Done n b) W mem xs h = absurd (h refl)
+kept Length W mem xs h = refl
+kept Registers W mem xs h = refl
+kept Window W mem xs h = refl
+kept Undefined W mem xs h = refl
+kept Illegal W mem xs h = refl
+kept Stack W mem xs h = refl
+kept (Fault e a) W mem xs h = refl
+
+pub refusals-leave-memory : RefusalsLeaveMemory
+refusals-leave-memory f m W mem word v mem′ r h = r .memory ∙ kept v W mem (elementsFor m (decodeOf word)) h
+
+-- ---- what done says
+
+inside-all : (W L : ℕ) (xs : List Element) → firstOutside W L xs ≡ none → InWindow W L xs
+unfolding firstOutside
+inside-all W L [] e = tt
+inside-all W L (x ∷ xs) e = go (inWindow W L (x .address) (length (x .bytes))) refl e (λ q. inside-all W L xs q)
+  where
+    go : (b : Bool) → inWindow W L (x .address) (length (x .bytes)) ≡ b → cond b (firstOutside W L xs) (some x) ≡ none
+        → (firstOutside W L xs ≡ none → InWindow W L xs) → InWindow W L (x ∷ xs)
+    go true i q rest = let w = in-window-inv W L (x .address) (length (x .bytes)) i in (w .0, w .1, rest q)
+    go false i q rest = let z : _≡_ {A = ℕ} 0 1 = cc in absurd (omega arith)
+
+record IsDone (m : Machine) (W L n b : ℕ) (d : Decoded) : Type 0 where
+  inside : InWindow W L (elementsFor m d)
+  elements-are : n ≡ length (elementsFor m d)
+  bytes-are : (s : Store) → d ≡ D.Known s → b ≡ length (elementsFor m d) * sizeOf (classFor s)
+
+concluded-done : (W L k n b : ℕ) (xs : List Element) (o : Option Element) → firstOutside W L xs ≡ o → concluded o k xs ≡ Done n b
+    → InWindow W L xs × (n ≡ length xs) × (b ≡ length xs * k)
+concluded-done W L k n b xs none q e = (inside-all W L xs q, cc, cc)
+concluded-done W L k n b xs (some x) q e = let z : _≡_ {A = ℕ} 0 1 = cc in absurd (omega arith)
+
+for-done : (f : Flags) (m : Machine) (W L n b : ℕ) (d : Decoded) → verdictFor f m W L d ≡ Done n b → IsDone m W L n b d
+unfolding settled
+for-done f m W L n b D.Undefined e = let z : _≡_ {A = ℕ} 0 1 = cc in absurd (omega arith)
+for-done f m W L n b (D.Known s) e =
+    go (not (flagOn f (featureOf s))) (illegal f (featureOf s)) (stack f (m .sp) (onStack s) (elements m s)) e
+  where
+    go : (a c d : Bool) → cond a Undefined (cond c Illegal (cond d Stack (concluded (firstOutside W L (elements m s)) (sizeOf (classFor s)) (elements m s)))) ≡ Done n b
+        → IsDone m W L n b (D.Known s)
+    go true c d q = let z : _≡_ {A = ℕ} 0 1 = cc in absurd (omega arith)
+    go false true d q = let z : _≡_ {A = ℕ} 0 1 = cc in absurd (omega arith)
+    go false false true q = let z : _≡_ {A = ℕ} 0 1 = cc in absurd (omega arith)
+    go false false false q =
+        let t = concluded-done W L (sizeOf (classFor s)) n b (elements m s) (firstOutside W L (elements m s)) refl q in
+        record {
+          inside = t .0;
+          elements-are = t .1;
+          bytes-are = λ u p. t .2 ∙ ap (λ (y : Store). length (elements m s) * sizeOf (classFor y)) (known s u p)
+        }
+      where
+        known : (x y : Store) → D.Known x ≡ D.Known y → x ≡ y
+        known x y p = cc
+
+done-is : (f : Flags) (m : Machine) (W L word n b : ℕ) → verdictOf f m W L word ≡ Done n b → IsDone m W L n b (decodeOf word)
+unfolding verdictOf
+done-is f m W L word n b e = go (not (lengthOk (m .vb))) (not (registersOk m)) (not (windowOk W L)) e
+  where
+    go : (a c d : Bool) → cond a Length (cond c Registers (cond d Window (verdictFor f m W L (decodeOf word)))) ≡ Done n b → IsDone m W L n b (decodeOf word)
+    go true c d q = let z : _≡_ {A = ℕ} 0 1 = cc in absurd (omega arith)
+    go false true d q = let z : _≡_ {A = ℕ} 0 1 = cc in absurd (omega arith)
+    go false false true q = let z : _≡_ {A = ℕ} 0 1 = cc in absurd (omega arith)
+    go false false false q = for-done f m W L n b (decodeOf word) q
+
+pub place-by-place : PlaceByPlace
+place-by-place f m W mem word n b mem′ r =
+    let xs = elementsFor m (decodeOf word) in
+    let d = done-is f m W (length mem) word n b (sym (r .answer)) in
+    let q : mem′ ≡ overlay W mem (netEffect xs) = r .memory ∙ sym (laid-as-written W mem xs (d .inside)) in
+    (ap length q ∙ length-overlay W mem (netEffect xs),
+      (λ i h. ap (λ (l : List ℕ). getD l i 0) q ∙ getD-overlay W mem (netEffect xs) i h ∙ ap (byteOr (getD mem i 0)) (written-last xs (W + i))))
+
+pub counts-of-done : CountsOfDone
+counts-of-done f m W mem word n b mem′ s r e =
+    let d = done-is f m W (length mem) word n b (sym (r .answer)) in
+    let q : elementsFor m (decodeOf word) ≡ elements m s = ap (elementsFor m) e in
+    (d .elements-are ∙ ap length q, d .bytes-are s e ∙ ap (λ (xs : List Element). length xs * sizeOf (classFor s)) q)
+
+rising : (m : Machine) (s : Store) (n e k : ℕ) → k ≤ e → Rising k (actives (activeAt m s) (elementAt m s) n e)
+unfolding actives elementAt
+rising m s zero e k h = tt
+rising m s (suc n) e k h = go (activeAt m s e) (rising m s n (suc e) (suc e) (omega arith)) (rising m s n (suc e) k (omega arith))
+  where
+    go : (b : Bool) → Rising (suc e) (actives (activeAt m s) (elementAt m s) n (suc e)) → Rising k (actives (activeAt m s) (elementAt m s) n (suc e))
+        → Rising k (cond b (elementAt m s e ∷ actives (activeAt m s) (elementAt m s) n (suc e)) (actives (activeAt m s) (elementAt m s) n (suc e)))
+    go true p q = (h, p)
+    go false p q = q
+
+pub in-ascending-order : InAscendingOrder
+unfolding elements
+in-ascending-order m s = rising m s (countOf m s) 0 0 (omega arith)
+
+-- ---- an element's bytes
+
+-- bytes of a part of a register are bytes of the buffer
+part-bytes : (vb r at n : ℕ) (z : List ℕ) → r * vb + vb ≤ length z → at + n ≤ vb
+    → (length (take n (drop at (register vb z r))) ≡ n)
+      × ((k : ℕ) → k < n → getD (take n (drop at (register vb z r))) k 0 ≡ getD z (r * vb + at + k) 0)
+part-bytes vb r at n z h l =
+    let q = register-long vb r z h in
+    (omega (arith, length-take n (drop at (register vb z r)), length-drop at (register vb z r)),
+      (λ k j.
+        getD-take n (drop at (register vb z r)) k 0 j
+        ∙ getD-drop at (register vb z r) k 0
+        ∙ getD-take vb (drop (r * vb) z) (at + k) 0 (omega arith)
+        ∙ getD-drop (r * vb) z (at + k) 0
+        ∙ ap (λ (i : ℕ). getD z i 0) (omega arith)))
+
+pub element-bytes : ElementBytes
+unfolding elementAt
+element-bytes m (Scatter f) e o a h =
+    let c = classFor (Scatter f) in
+    let s = scatter-in f a in
+    let v = scatter-sound m (o .low) (o .high) (o .sixteen) f s in
+    let i : e < perRegister m c = omega (arith, ap (λ (n : ℕ). n * perRegister m c) (s .nreg), one-mul (perRegister m c)) in
+    part-bytes (m .vb) (f .zt) (e * stepOf c) (sizeOf c) (m .z) (register-in (m .vb) (f .zt) 32 (length (m .z)) (s .zt) (o .long-z))
+    (bytes-in (scatterPlan m c f) (m .vb) v e i)
+element-bytes m (Strided f) e o a h =
+    let c = classFor (Strided f) in
+    let s = strided-in f a in
+    let v = strided-sound m (o .low) (o .high) (o .sixteen) f s in
+    part-bytes (m .vb) (registerIn m c (Strided f) e) (placeIn m c (Strided f) e) (sizeOf c) (m .z)
+    (register-in (m .vb) (registerIn m c (Strided f) e) 32 (length (m .z)) (register-below (stridedPlan m c f) (m .vb) v e h) (o .long-z))
+    (place-in (stridedPlan m c f) (m .vb) v e h)
+element-bytes m (Quadword f) e o a h =
+    let c = classFor (Quadword f) in
+    let s = quadword-in f a in
+    let v = quadword-sound m (o .low) (o .high) (o .sixteen) f s in
+    let i : e < perRegister m c = omega (arith, ap (λ (n : ℕ). n * perRegister m c) (s .nreg), one-mul (perRegister m c)) in
+    part-bytes (m .vb) (f .zt) (e * stepOf c) (sizeOf c) (m .z) (register-in (m .vb) (f .zt) 32 (length (m .z)) (s .zt) (o .long-z))
+    (bytes-in (quadwordPlan m c f) (m .vb) v e i)
+
+-- ---- the order of the verdicts
+
+last-four : (f : Flags) (m : Machine) (W L : ℕ) (d : Decoded)
+    → number (verdictFor f m W L d) ≡ onward (onward (onward (firstHolding (undefinedIs f d ∷ illegalIs f d ∷ stackIs f m d ∷ faultIs m W L d ∷ []))))
+unfolding settled
+last-four f m W L D.Undefined = refl
+last-four f m W L (D.Known s) =
+    go (not (flagOn f (featureOf s))) (illegal f (featureOf s)) (stack f (m .sp) (onStack s) (elements m s)) (firstOutside W L (elements m s))
+  where
+    go : (a c d : Bool) (o : Option Element)
+        → number (cond a Undefined (cond c Illegal (cond d Stack (concluded o (sizeOf (classFor s)) (elements m s)))))
+          ≡ onward (onward (onward (firstHolding (a ∷ c ∷ d ∷ isOutside o ∷ []))))
+    go true c d o = refl
+    go false true d o = refl
+    go false false true o = refl
+    go false false false none = refl
+    go false false false (some x) = refl
+
+pub first-condition-decides : FirstConditionDecides
+unfolding verdictOf
+first-condition-decides f m W L word = go (not (lengthOk (m .vb))) (not (registersOk m)) (not (windowOk W L))
+  where
+    go : (a b c : Bool)
+        → number (cond a Length (cond b Registers (cond c Window (verdictFor f m W L (decodeOf word)))))
+          ≡ firstHolding (a ∷ b ∷ c ∷ undefinedIs f (decodeOf word) ∷ illegalIs f (decodeOf word) ∷ stackIs f m (decodeOf word) ∷ faultIs m W L (decodeOf word) ∷ [])
+    go true b c = refl
+    go false true c = refl
+    go false false true = refl
+    go false false false = last-four f m W L (decodeOf word)
