@@ -9,12 +9,17 @@ ghost use Rattle.encoding.specs.Decoding.{decodeOf};
 ghost use lib.ListN.{length};
 ghost use Rattle.elements.specs.Machine.{machine};
 ghost use Rattle.store.specs.Verdicts.{verdictOf, elementsFor, memoryAfter, number, numbers};
+ghost use Rattle.patch.specs.Answers.{judgedNumber, judgedNumbers};
+ghost use Rattle.patch.specs.Judging.{judged};
 ghost use Rattle.starshackle.specs.Codec.{encodeGiven, encodedAnswers};
+ghost use Rattle.starshackle.specs.Patches.{AppliedAs};
 ghost use Rattle.starshackle.specs.Running.{flagsOf};
 use codec::encode_given;
 use codec::numbers_of;
 use encoding::Decoded;
 use encoding::Encoded;
+use patch::Applied;
+use patch::Judged;
 use running::answers_of;
 use running::flags_of;
 use running::number_of;
@@ -77,4 +82,54 @@ pub extern "C" fn starshackle_run(
     let v = store::run(vb, flags_of(flags), x, sp, z, p, base, memory, word);
     *answer = answers_of(v);
     number_of(v)
+}
+
+// Applies a patch to the window of `memory` at the address `base`: the verdict's number, and the run and address of its detail,
+// the runs, the payload bytes, and zero.
+#[no_mangle]
+pub extern "C" fn starshackle_apply(
+    base: u64,
+    memory: &mut [u8],
+    patch: &[u8],
+    answer: &mut [u64; 5],
+) -> u64
+    ensures { λ r. ⌜ AppliedAs base (now (memory .entry)) (now (patch .entry)) r (now (answer .exit)) (now (memory .exit)) ⌝ }
+{
+    match patch::apply(base, memory, patch) {
+        Applied::Done { runs, bytes } => {
+            *answer = [0, 0, runs as u64, bytes as u64, 0];
+            0
+        }
+        Applied::Window => {
+            *answer = [0; 5];
+            3
+        }
+        Applied::BadPatch => {
+            *answer = [0; 5];
+            9
+        }
+        Applied::Outside { run, address } => {
+            *answer = [run as u64, address, 0, 0, 0];
+            10
+        }
+    }
+}
+
+// Judges a byte string: 0 with the runs and payload bytes of the patch in answers 2 and 3, or 9 with the number of runs that are
+// whole and acceptable from the front in 0 and the index where what follows them can't be accepted in 1.
+#[no_mangle]
+pub extern "C" fn starshackle_judge(patch: &[u8], answer: &mut [u64; 5]) -> u64
+    ensures number { λ r. ⌜ r ≡ judgedNumber (judged (now (patch .entry))) ⌝ }
+    ensures numbers { λ _. ⌜ now (answer .exit) ≡ judgedNumbers (judged (now (patch .entry))) ⌝ }
+{
+    match patch::judge(patch) {
+        Judged::Patch { runs, bytes } => {
+            *answer = [0, 0, runs as u64, bytes as u64, 0];
+            0
+        }
+        Judged::NoPatch { runs, at } => {
+            *answer = [runs as u64, at as u64, 0, 0, 0];
+            9
+        }
+    }
 }

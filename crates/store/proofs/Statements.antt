@@ -2,7 +2,7 @@
 use mathlib.Core.Path.{_≡_, refl, sym, ap, ap₂, _∙_, subst}
 use mathlib.Core.Bool.{Bool, true, false, not, cond}
 use mathlib.Core.List.{List, [], _∷_}
-use mathlib.Core.Option.{Option, none, some}
+use mathlib.Core.Option.{Option, none, some, Option·getD}
 use Prim.Native.Nat.{ℕ, zero, suc, _+_, _-_, _*_, _/_, _%_, _≤_, _<_}
 use native.Mathlib.Nat.{one-mul, mul-le-mul-right}
 use native.Mathlib.Omega.{arith}
@@ -15,7 +15,7 @@ use Rattle.encoding.specs.declared.Decoded.the-variants as D
 use Rattle.encoding.specs.declared.Store.{Store}
 use Rattle.encoding.specs.declared.Store.the-variants.{Scatter, Strided, Quadword}
 use Rattle.writes.specs.Elements.{Element, InWindow, lastAt, written, netEffect}
-use Rattle.writes.specs.Sets.{byteOr, overlay}
+use Rattle.writes.specs.Sets.{overlay}
 use Rattle.writes.specs.Window.{windowOk, inWindow}
 use Rattle.writes.proofs.Overlay.{length-overlay, getD-overlay}
 use Rattle.writes.proofs.Statements.{laid-as-written, written-last}
@@ -39,11 +39,12 @@ use Rattle.store.proofs.Spans.{bytes-in, place-in, register-below}
 
 pub one-outcome : OneOutcome
 one-outcome f m W mem word =
-    let v = verdictOf f m W (length mem) word in
-    ((v, (memoryAfter v W mem (elementsFor m (decodeOf word)), record { answer = refl; memory = refl })),
+    let v = verdictOf f m W (length mem) word in (
+      (v, (memoryAfter v W mem (elementsFor m (decodeOf word)), record { answer = refl; memory = refl })),
       (λ v₁ v₂ m₁ m₂ r s.
-        let q = r .answer ∙ sym (s .answer) in
-        (q, r .memory ∙ ap (λ (y : Verdict). memoryAfter y W mem (elementsFor m (decodeOf word))) q ∙ sym (s .memory))))
+          let q = r .answer ∙ sym (s .answer) in
+          (q, r .memory ∙ ap (λ (y : Verdict). memoryAfter y W mem (elementsFor m (decodeOf word))) q ∙ sym (s .memory))),
+    )
 
 kept : (v : Verdict) (W : ℕ) (mem : List ℕ) (xs : List Element) → (number v ≡ 0 → ⊥) → memoryAfter v W mem xs ≡ mem
 kept (Done n b) W mem xs h = absurd (h refl)
@@ -96,7 +97,7 @@ for-done f m W L n b (D.Known s) e =
         record {
           inside = t .0;
           elements-are = t .1;
-          bytes-are = λ u p. t .2 ∙ ap (λ (y : Store). length (elements m s) * sizeOf (classFor y)) (known s u p)
+          bytes-are = λ u p. t .2 ∙ ap (λ (y : Store). length (elements m s) * sizeOf (classFor y)) (known s u p);
         }
       where
         known : (x y : Store) → D.Known x ≡ D.Known y → x ≡ y
@@ -116,9 +117,10 @@ pub place-by-place : PlaceByPlace
 place-by-place f m W mem word n b mem′ r =
     let xs = elementsFor m (decodeOf word) in
     let d = done-is f m W (length mem) word n b (sym (r .answer)) in
-    let q : mem′ ≡ overlay W mem (netEffect xs) = r .memory ∙ sym (laid-as-written W mem xs (d .inside)) in
-    (ap length q ∙ length-overlay W mem (netEffect xs),
-      (λ i h. ap (λ (l : List ℕ). getD l i 0) q ∙ getD-overlay W mem (netEffect xs) i h ∙ ap (byteOr (getD mem i 0)) (written-last xs (W + i))))
+    let q : mem′ ≡ overlay W mem (netEffect xs) = r .memory ∙ sym (laid-as-written W mem xs (d .inside)) in (
+      ap length q ∙ length-overlay W mem (netEffect xs),
+      (λ i h. ap (λ (l : List ℕ). getD l i 0) q ∙ getD-overlay W mem (netEffect xs) i h ∙ ap (λ (o : Option ℕ). Option·getD o (getD mem i 0)) (written-last xs (W + i))),
+    )
 
 pub counts-of-done : CountsOfDone
 counts-of-done f m W mem word n b mem′ s r e =
@@ -145,16 +147,17 @@ in-ascending-order m s = rising m s (countOf m s) 0 0 (omega arith)
 -- bytes of a part of a register are bytes of the buffer
 part-bytes : (vb r at n : ℕ) (z : List ℕ) → r * vb + vb ≤ length z → at + n ≤ vb
     → (length (take n (drop at (register vb z r))) ≡ n)
-      × ((k : ℕ) → k < n → getD (take n (drop at (register vb z r))) k 0 ≡ getD z (r * vb + at + k) 0)
+    × ((k : ℕ) → k < n → getD (take n (drop at (register vb z r))) k 0 ≡ getD z (r * vb + at + k) 0)
 part-bytes vb r at n z h l =
-    let q = register-long vb r z h in
-    (omega (arith, length-take n (drop at (register vb z r)), length-drop at (register vb z r)),
+    let q = register-long vb r z h in (
+      omega (arith, length-take n (drop at (register vb z r)), length-drop at (register vb z r)),
       (λ k j.
-        getD-take n (drop at (register vb z r)) k 0 j
-        ∙ getD-drop at (register vb z r) k 0
-        ∙ getD-take vb (drop (r * vb) z) (at + k) 0 (omega arith)
-        ∙ getD-drop (r * vb) z (at + k) 0
-        ∙ ap (λ (i : ℕ). getD z i 0) (omega arith)))
+          getD-take n (drop at (register vb z r)) k 0 j
+          ∙ getD-drop at (register vb z r) k 0
+          ∙ getD-take vb (drop (r * vb) z) (at + k) 0 (omega arith)
+          ∙ getD-drop (r * vb) z (at + k) 0
+          ∙ ap (λ (i : ℕ). getD z i 0) (omega arith)),
+    )
 
 pub element-bytes : ElementBytes
 unfolding elementAt
@@ -191,7 +194,7 @@ last-four f m W L (D.Known s) =
   where
     go : (a c d : Bool) (o : Option Element)
         → number (cond a Undefined (cond c Illegal (cond d Stack (concluded o (sizeOf (classFor s)) (elements m s)))))
-          ≡ onward (onward (onward (firstHolding (a ∷ c ∷ d ∷ isOutside o ∷ []))))
+        ≡ onward (onward (onward (firstHolding (a ∷ c ∷ d ∷ isOutside o ∷ []))))
     go true c d o = refl
     go false true d o = refl
     go false false true o = refl
@@ -204,7 +207,7 @@ first-condition-decides f m W L word = go (not (lengthOk (m .vb))) (not (registe
   where
     go : (a b c : Bool)
         → number (cond a Length (cond b Registers (cond c Window (verdictFor f m W L (decodeOf word)))))
-          ≡ firstHolding (a ∷ b ∷ c ∷ undefinedIs f (decodeOf word) ∷ illegalIs f (decodeOf word) ∷ stackIs f m (decodeOf word) ∷ faultIs m W L (decodeOf word) ∷ [])
+        ≡ firstHolding (a ∷ b ∷ c ∷ undefinedIs f (decodeOf word) ∷ illegalIs f (decodeOf word) ∷ stackIs f m (decodeOf word) ∷ faultIs m W L (decodeOf word) ∷ [])
     go true b c = refl
     go false true c = refl
     go false false true = refl

@@ -120,8 +120,8 @@ outcome c =
       decoded = decodeOf (c .word);
       verdict = verdictOf (c .flags) (c .state) (c .base) (c .room) (c .word);
       memory =
-        memoryAfter (verdictOf (c .flags) (c .state) (c .base) (c .room) (c .word)) (c .base) (replicate (c .room) 0)
-        (elementsFor (c .state) (decodeOf (c .word)))
+          memoryAfter (verdictOf (c .flags) (c .state) (c .base) (c .room) (c .word)) (c .base) (replicate (c .room) 0)
+          (elementsFor (c .state) (decodeOf (c .word)));
     }
 
 abbrev pub expected : Case → Outcome

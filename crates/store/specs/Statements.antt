@@ -3,7 +3,7 @@
 use Prim.Native.Nat.{ℕ, zero, suc, _+_, _*_, _≤_, _<_}
 use mathlib.Core.Bool.{Bool, true, false, not, cond}
 use mathlib.Core.List.{List, [], _∷_}
-use mathlib.Core.Option.{Option, none, some}
+use mathlib.Core.Option.{Option, none, some, Option·getD}
 use mathlib.Core.Path.{_≡_}
 use lib.ListN.{length, getD}
 use Rattle.encoding.specs.Decoding.{decodeOf}
@@ -12,7 +12,6 @@ use Rattle.encoding.specs.declared.Decoded.{Decoded}
 use Rattle.encoding.specs.declared.Decoded.the-variants as D
 use Rattle.encoding.specs.declared.Store.{Store}
 use Rattle.writes.specs.Elements.{Element, lastAt}
-use Rattle.writes.specs.Sets.{byteOr}
 use Rattle.writes.specs.Window.{windowOk}
 use Rattle.elements.specs.Machine.{Machine}
 use Rattle.elements.specs.Stores.{sizeOf, countOf, registerIn, placeIn}
@@ -31,7 +30,7 @@ abbrev pub OneOutcome : Type 0
 OneOutcome =
     (f : Flags) (m : Machine) (W : ℕ) (mem : List ℕ) (word : ℕ)
     → ((v : Verdict) × ((mem′ : List ℕ) × Ran f m W mem word v mem′))
-      × ((v v′ : Verdict) (mem′ mem″ : List ℕ) → Ran f m W mem word v mem′ → Ran f m W mem word v′ mem″ → (v ≡ v′) × (mem′ ≡ mem″))
+    × ((v v′ : Verdict) (mem′ mem″ : List ℕ) → Ran f m W mem word v mem′ → Ran f m W mem word v′ mem″ → (v ≡ v′) × (mem′ ≡ mem″))
 
 -- "Every verdict but done leaves memory .. byte for byte as they came."
 abbrev pub RefusalsLeaveMemory : Type 0
@@ -47,7 +46,7 @@ PlaceByPlace =
     (f : Flags) (m : Machine) (W : ℕ) (mem : List ℕ) (word n b : ℕ) (mem′ : List ℕ)
     → Ran f m W mem word (Done n b) mem′
     → (length mem′ ≡ length mem)
-      × ((i : ℕ) → i < length mem → getD mem′ i 0 ≡ byteOr (getD mem i 0) (lastAt (W + i) (elementsFor m (decodeOf word))))
+    × ((i : ℕ) → i < length mem → getD mem′ i 0 ≡ Option·getD (lastAt (W + i) (elementsFor m (decodeOf word))) (getD mem i 0))
 
 -- the list ascends by number, so that the last element is the highest
 abbrev pub Rising : ℕ → List Element → Type 0
@@ -69,8 +68,8 @@ abbrev pub ElementBytes : Type 0
 ElementBytes =
     (m : Machine) (s : Store) (e : ℕ) → Sound (m .vb) (m .z) (m .p) → refused s ≡ false → e < countOf m s
     → (length (elementAt m s e .bytes) ≡ sizeOf (classFor s))
-      × ((k : ℕ) → k < sizeOf (classFor s)
-        → getD (elementAt m s e .bytes) k 0 ≡ getD (m .z) (registerIn m (classFor s) s e * m .vb + placeIn m (classFor s) s e + k) 0)
+    × ((k : ℕ) → k < sizeOf (classFor s)
+    → getD (elementAt m s e .bytes) k 0 ≡ getD (m .z) (registerIn m (classFor s) s e * m .vb + placeIn m (classFor s) s e + k) 0)
 
 -- ---- "Each refusal is given exactly when document 01 says"
 
@@ -109,12 +108,12 @@ abbrev pub FirstConditionDecides : Type 0
 FirstConditionDecides =
     (f : Flags) (m : Machine) (W L word : ℕ)
     → number (verdictOf f m W L word)
-      ≡ firstHolding
-        (not (lengthOk (m .vb))
-        ∷ not (registersOk m)
-        ∷ not (windowOk W L)
-        ∷ undefinedIs f (decodeOf word)
-        ∷ illegalIs f (decodeOf word)
-        ∷ stackIs f m (decodeOf word)
-        ∷ faultIs m W L (decodeOf word)
-        ∷ [])
+    ≡ firstHolding
+    (not (lengthOk (m .vb))
+    ∷ not (registersOk m)
+    ∷ not (windowOk W L)
+    ∷ undefinedIs f (decodeOf word)
+    ∷ illegalIs f (decodeOf word)
+    ∷ stackIs f m (decodeOf word)
+    ∷ faultIs m W L (decodeOf word)
+    ∷ [])

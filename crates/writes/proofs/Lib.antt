@@ -1,10 +1,11 @@
 pub mod Order
 pub mod LittleEndian
+pub mod Copying
+pub mod Windows
 pub mod Runs
 pub mod Lookup
 pub mod Net
 pub mod Overlay
 pub mod Described
 pub mod Statements
-pub mod Copying
-pub mod Windows
+pub mod Examples

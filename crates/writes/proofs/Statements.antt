@@ -1,15 +1,14 @@
 -- Proofs of what is promised in specs/Statements.antt. Assumes nothing.
-use mathlib.Core.Path.{_≡_, refl, sym, ap, _∙_}
+use mathlib.Core.Path.{ap, _∙_}
 use Prim.Native.Nat.{ℕ}
 use mathlib.Core.List.{List, []}
-use mathlib.Core.Option.{Option, none, some}
-use Rattle.writes.specs.Sets.{lookup, overlay}
+use Rattle.writes.specs.Sets.{lookup}
 use Rattle.writes.specs.Elements.{lastAt, written}
-use Rattle.writes.specs.Statements.{EqualLookups, RunsAsDescribed, RunAtEachStart, RunsKeepTheRules, EncodingLength, NetEffectIsASet, WrittenLast, LaidAsWritten}
+use Rattle.writes.specs.Statements.{EqualLookups, RunsAsDescribed, RunAtEachStart, RunsKeepTheRules, EncodingLength, NetEffectIsASet, WrittenLast, LaidAsWritten, NetEffectInWindow}
 use Rattle.writes.proofs.Runs.{apart-runs, length-encode}
 use Rattle.writes.proofs.Lookup.{or-none, ext-lookup}
 use Rattle.writes.proofs.Described.{run-described, described-run, run-at-start}
-use Rattle.writes.proofs.Net.{lookup-spliceAll, ascending-spliceAll}
+use Rattle.writes.proofs.Net.{lookup-spliceAll, ascending-spliceAll, net-in-window}
 use Rattle.writes.proofs.Overlay.{overlay-nil, overlay-spliceAll}
 
 pub equal-lookups : EqualLookups
@@ -36,3 +35,6 @@ written-last es x = lookup-spliceAll x [] es ∙ or-none (lastAt x es)
 
 pub laid-as-written : LaidAsWritten
 laid-as-written W mem es h = overlay-spliceAll W mem [] es h ∙ ap (λ (m : List ℕ). written W m es) (overlay-nil W mem)
+
+pub net-effect-in-window : NetEffectInWindow
+net-effect-in-window W L es h x b q = net-in-window W L es h x b q

@@ -1,6 +1,6 @@
 -- What is promised of sets of byte writes. Each has its proof in proofs/Statements.antt. Assumes nothing.
-use Prim.Native.Nat.{ℕ, zero, suc, _+_, _*_, _≤_, _<_}
-use mathlib.Core.List.{List, [], _∷_}
+use Prim.Native.Nat.{ℕ, suc, _+_, _*_, _≤_, _<_}
+use mathlib.Core.List.{List, _∷_}
 use mathlib.Core.Logic.{_↔_}
 use mathlib.Core.Option.{none, some}
 use mathlib.Core.Path.{_≡_}
@@ -56,3 +56,7 @@ WrittenLast = (es : List Element) (x : ℕ) → lookup x (netEffect es) ≡ last
 -- laying the net effect over a window is the same as writing the elements in turn
 abbrev pub LaidAsWritten : Type 0
 LaidAsWritten = (W : ℕ) (mem : List ℕ) (es : List Element) → InWindow W (length mem) es → overlay W mem (netEffect es) ≡ written W mem es
+
+-- the net effect of elements in a window writes nothing outside it
+abbrev pub NetEffectInWindow : Type 0
+NetEffectInWindow = (W L : ℕ) (es : List Element) → InWindow W L es → (x b : ℕ) → lookup x (netEffect es) ≡ some b → (W ≤ x) × (x < W + L)

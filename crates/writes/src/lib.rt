@@ -81,7 +81,7 @@ fn copy_rest(dst: &mut [u8], src: &[u8], done: usize)
     }
 }
 
-// All bytes of src, which are as many.
+// All bytes of one slice into another of its length.
 pub fn copy(dst: &mut [u8], src: &[u8])
     requires { ⌜ length (now src) ≡ length (now dst) ⌝ }
     ensures { λ _. ⌜ now (dst .exit) ≡ now (src .entry) ⌝ }

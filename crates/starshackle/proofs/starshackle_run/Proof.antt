@@ -30,9 +30,10 @@ returns c =
     let a = c .before .before .before .before .before .before .before .before .before .before .args in
     let m = machine (a .vb) (a .x .now) (a .sp) (a .z .now) (a .p .now) in
     let r = c .before .before .before .before .run in
-    let q = r .ensures .answer ∙ ap (λ (f : Flags). verdictOf f m (a .base) (length (a .memory .now)) (a .word)) (c .before .before .before .before .before .before .flags-of .ensures) in
-    (c .number-of .ensures ∙ ap number q,
-      (c .before .answers-of .ensures ∙ ap numbers q, r .ensures .memory ∙ ap (λ (v : Verdict). memoryAfter v (a .base) (a .memory .now) (elementsFor m (decodeOf (a .word)))) q))
+    let q = r .ensures .answer ∙ ap (λ (f : Flags). verdictOf f m (a .base) (length (a .memory .now)) (a .word)) (c .before .before .before .before .before .before .flags-of .ensures) in (
+      c .number-of .ensures ∙ ap number q,
+      (c .before .answers-of .ensures ∙ ap numbers q, r .ensures .memory ∙ ap (λ (v : Verdict). memoryAfter v (a .base) (a .memory .now) (elementsFor m (decodeOf (a .word)))) q),
+    )
 
 pub starshackle-run-spec : {M : Type 1} → statement M
 starshackle-run-spec =

@@ -1,5 +1,4 @@
 -- Eight stores of bytes loaded before. Assumes nothing.
-use borrow.Author.Needs.{needs}
 use native.Mathlib.Omega.{arith}
 use lib.ListN.{length-set}
 use Rattle.writes.proofs.Copying.{eight-more}
@@ -7,91 +6,91 @@ use Rattle.writes.proofs.copy8.Statement.{statement}
 use Rattle.writes.proofs.copy8.Tie as tie
 
 shared-slice-read-b0 : tie.Need-shared-slice-read-b0
-shared-slice-read-b0 c = search needs
+shared-slice-read-b0 c = omega arith
 
 add-b1 : tie.Need-add-b1
-add-b1 c = search needs
+add-b1 c = omega arith
 
 shared-slice-read-b1 : tie.Need-shared-slice-read-b1
-shared-slice-read-b1 c = search needs
+shared-slice-read-b1 c = omega arith
 
 add-b2 : tie.Need-add-b2
-add-b2 c = search needs
+add-b2 c = omega arith
 
 shared-slice-read-b2 : tie.Need-shared-slice-read-b2
-shared-slice-read-b2 c = search needs
+shared-slice-read-b2 c = omega arith
 
 add-b3 : tie.Need-add-b3
-add-b3 c = search needs
+add-b3 c = omega arith
 
 shared-slice-read-b3 : tie.Need-shared-slice-read-b3
-shared-slice-read-b3 c = search needs
+shared-slice-read-b3 c = omega arith
 
 add-b4 : tie.Need-add-b4
-add-b4 c = search needs
+add-b4 c = omega arith
 
 shared-slice-read-b4 : tie.Need-shared-slice-read-b4
-shared-slice-read-b4 c = search needs
+shared-slice-read-b4 c = omega arith
 
 add-b5 : tie.Need-add-b5
-add-b5 c = search needs
+add-b5 c = omega arith
 
 shared-slice-read-b5 : tie.Need-shared-slice-read-b5
-shared-slice-read-b5 c = search needs
+shared-slice-read-b5 c = omega arith
 
 add-b6 : tie.Need-add-b6
-add-b6 c = search needs
+add-b6 c = omega arith
 
 shared-slice-read-b6 : tie.Need-shared-slice-read-b6
-shared-slice-read-b6 c = search needs
+shared-slice-read-b6 c = omega arith
 
 add-b7 : tie.Need-add-b7
-add-b7 c = search needs
+add-b7 c = omega arith
 
 shared-slice-read-b7 : tie.Need-shared-slice-read-b7
-shared-slice-read-b7 c = search needs
+shared-slice-read-b7 c = omega arith
 
 slice-write-dst : tie.Need-slice-write-dst
-slice-write-dst c = search needs
+slice-write-dst c = omega arith
 
 add-dst : tie.Need-add-dst
-add-dst c = search needs
+add-dst c = omega arith
 
 slice-write-dst-2 : tie.Need-slice-write-dst-2
 slice-write-dst-2 c = simp length-set (omega arith)
 
 add-dst-2 : tie.Need-add-dst-2
-add-dst-2 c = search needs
+add-dst-2 c = omega arith
 
 slice-write-dst-3 : tie.Need-slice-write-dst-3
 slice-write-dst-3 c = simp length-set (omega arith)
 
 add-dst-3 : tie.Need-add-dst-3
-add-dst-3 c = search needs
+add-dst-3 c = omega arith
 
 slice-write-dst-4 : tie.Need-slice-write-dst-4
 slice-write-dst-4 c = simp length-set (omega arith)
 
 add-dst-4 : tie.Need-add-dst-4
-add-dst-4 c = search needs
+add-dst-4 c = omega arith
 
 slice-write-dst-5 : tie.Need-slice-write-dst-5
 slice-write-dst-5 c = simp length-set (omega arith)
 
 add-dst-5 : tie.Need-add-dst-5
-add-dst-5 c = search needs
+add-dst-5 c = omega arith
 
 slice-write-dst-6 : tie.Need-slice-write-dst-6
 slice-write-dst-6 c = simp length-set (omega arith)
 
 add-dst-6 : tie.Need-add-dst-6
-add-dst-6 c = search needs
+add-dst-6 c = omega arith
 
 slice-write-dst-7 : tie.Need-slice-write-dst-7
 slice-write-dst-7 c = simp length-set (omega arith)
 
 add-dst-7 : tie.Need-add-dst-7
-add-dst-7 c = search needs
+add-dst-7 c = omega arith
 
 slice-write-dst-8 : tie.Need-slice-write-dst-8
 slice-write-dst-8 c = simp length-set (omega arith)
