@@ -1,5 +1,5 @@
 -- Lists of active elements: one more, and a store's list as its plan's. Assumes nothing.
-use mathlib.Core.Path.{_≡_, refl, sym, ap, ap₂, _∙_, subst}
+use mathlib.Core.Path.{_≡_, refl, sym, ap, ap₂, _∙_}
 use mathlib.Core.Bool.{Bool, true, false, cond}
 use mathlib.Core.List.{List, [], _∷_}
 use Prim.Native.Nat.{ℕ, zero, suc, _+_, _-_, _*_, _/_, _%_, _^_, _≤_, _<_}
@@ -7,9 +7,7 @@ use native.Mathlib.Nat.{one-mul, mod-one, zero-mod, pow-zero, pow-suc}
 use native.Mathlib.Numerals.{add-one}
 use native.Mathlib.Omega.{arith}
 use lib.Arith.{mod-mul}
-use lib.Dec.{T}
-use lib.Pow.{pow-pos}
-use lib.ListN.{length, getD, take, drop}
+use lib.ListN.{take, drop}
 use Rattle.encoding.specs.Classes.{Class}
 use Rattle.encoding.specs.Encoding.{classFor}
 use Rattle.encoding.specs.declared.Extension.{Extension}
@@ -18,15 +16,14 @@ use Rattle.encoding.specs.declared.ScatterFields.{ScatterFields}
 use Rattle.encoding.specs.declared.StridedFields.{StridedFields}
 use Rattle.encoding.specs.declared.QuadwordFields.{QuadwordFields}
 use Rattle.encoding.specs.declared.Store.the-variants.{Scatter, Strided, Quadword}
-use Rattle.encoding.proofs.Tests.{cond-true, cond-false}
 use Rattle.writes.specs.LittleEndian.{Bytes, leVal}
 use Rattle.writes.specs.Elements.{Element}
 use Rattle.writes.proofs.LittleEndian.{bytes-take, bytes-drop}
 use Rattle.elements.specs.Machine.{Machine, baseOf, indexOf, vector, predicate}
-use Rattle.elements.specs.Stores.{stepOf, sizeOf, perRegister, countOf, signed32, offsetOf, elementIn, startOf}
+use Rattle.elements.specs.Stores.{stepOf, sizeOf, perRegister, countOf, signed32, offsetOf, startOf}
 use Rattle.elements.specs.Elements.{activeAt, elementAt, actives, elements}
 use Rattle.elements.specs.Plans.{offsetFrom, vectorAddress, vectorActive, vectorElement, vectorElements, scatterPlan, quadwordPlan, stridedAddress, stridedActive, stridedElement, stridedElements, stridedPlan}
-use Rattle.elements.proofs.Shapes.{ScatterIn, QuadwordIn, StridedIn}
+use Rattle.elements.proofs.Shapes.{ScatterIn, QuadwordIn}
 
 -- ---- one more element
 
@@ -94,59 +91,91 @@ offset-is None n at reg f h b = ap (λ (k : ℕ). leVal (take k (drop at reg))) 
 offset-is Uxtw n at reg f h b = low-bytes 4 n (drop at reg) h (bytes-drop at reg b)
 offset-is Sxtw n at reg f h b = ap signed32 (low-bytes 4 n (drop at reg) h (bytes-drop at reg b))
 
--- ---- a store's list is its plan's
+-- ---- a store's elements are its plan's
 
 element-same : (e a a′ : ℕ) (p : List ℕ) → a ≡ a′ → _≡_ {A = Element} (record { number = e; address = a; bytes = p }) (record { number = e; address = a′; bytes = p })
 element-same e a a′ p q = λ i. record { number = e; address = q i; bytes = p }
 
-module _ (m : Machine) (b : Bytes (m .z)) where
-  pub scatter-elements : (f : ScatterFields) → ScatterIn f (classFor (Scatter f))
-      → elements m (Scatter f) ≡ vectorElements (scatterPlan m (classFor (Scatter f)) f) (vector m (f .zm)) (predicate m (f .pg)) (vector m (f .zt))
-  unfolding elements activeAt elementAt vectorElements vectorActive vectorElement vectorAddress
-  scatter-elements f s =
+-- a store over one register has its elements
+one-register : (m : Machine) (c : Class) → c .nreg ≡ 1 → c .nreg * perRegister m c ≡ perRegister m c
+one-register m c q = ap (λ (k : ℕ). k * perRegister m c) q ∙ one-mul (perRegister m c)
+
+module _ (m : Machine) (f : ScatterFields) (s : ScatterIn f (classFor (Scatter f))) where
+  pub scatter-count : countOf m (Scatter f) ≡ scatterPlan m (classFor (Scatter f)) f .count
+  scatter-count = one-register m (classFor (Scatter f)) (s .nreg)
+
+  pub scatter-active : (e : ℕ) → activeAt m (Scatter f) e ≡ vectorActive (scatterPlan m (classFor (Scatter f)) f) (predicate m (f .pg)) e
+  unfolding activeAt vectorActive
+  scatter-active e = refl
+
+module _ (m : Machine) (b : Bytes (m .z)) (f : ScatterFields) (s : ScatterIn f (classFor (Scatter f))) where
+  pub scatter-element : (e : ℕ)
+      → elementAt m (Scatter f) e ≡ vectorElement (scatterPlan m (classFor (Scatter f)) f) (vector m (f .zm)) (vector m (f .zt)) e
+  unfolding elementAt vectorElement vectorAddress
+  scatter-element e =
       let c = classFor (Scatter f) in
-      let v = scatterPlan m c f in
-      let reg = vector m (f .zm) in
-      ap (λ (n : ℕ). actives (activeAt m (Scatter f)) (elementAt m (Scatter f)) n 0) (ap (λ (k : ℕ). k * perRegister m c) (s .nreg) ∙ one-mul (perRegister m c))
-      ∙ actives-same (activeAt m (Scatter f)) (vectorActive v (predicate m (f .pg))) (elementAt m (Scatter f)) (vectorElement v reg (vector m (f .zt)))
-      (λ e. refl)
-      (λ e.
       element-same e _ _ (take (sizeOf c) (drop (e * stepOf c) (vector m (f .zt))))
       (ap (λ (o : ℕ). (baseOf m (f .rn) + o * 2 ^ c .scale) % 2 ^ 64)
-      (offset-is (f .extension) (stepOf c) (e * stepOf c) reg (s .none) (s .four) (bytes-take (m .vb) (drop (f .zm * m .vb) (m .z)) (bytes-drop (f .zm * m .vb) (m .z) b)))))
-      (perRegister m c) 0
+      (offset-is (f .extension) (stepOf c) (e * stepOf c) (vector m (f .zm)) (s .none) (s .four) (bytes-take (m .vb) (drop (f .zm * m .vb) (m .z)) (bytes-drop (f .zm * m .vb) (m .z) b))))
 
-pub quadword-elements : (m : Machine) (f : QuadwordFields) → QuadwordIn f (classFor (Quadword f))
-    → elements m (Quadword f) ≡ vectorElements (quadwordPlan m (classFor (Quadword f)) f) (vector m (f .zn)) (predicate m (f .pg)) (vector m (f .zt))
-unfolding elements activeAt elementAt vectorElements vectorActive vectorElement vectorAddress
-quadword-elements m f s =
-    let c = classFor (Quadword f) in
-    let v = quadwordPlan m c f in
-    let reg = vector m (f .zn) in
-    ap (λ (n : ℕ). actives (activeAt m (Quadword f)) (elementAt m (Quadword f)) n 0) (ap (λ (k : ℕ). k * perRegister m c) (s .nreg) ∙ one-mul (perRegister m c))
-    ∙ actives-same (activeAt m (Quadword f)) (vectorActive v (predicate m (f .pg))) (elementAt m (Quadword f)) (vectorElement v reg (vector m (f .zt)))
-    (λ e. refl)
-    (λ e.
-    element-same e _ _ (take (sizeOf c) (drop (e * stepOf c) (vector m (f .zt))))
-    (let q : 2 * e * 8 ≡ e * stepOf c = omega (arith, ap (λ (n : ℕ). e * n) (s .sixteen)) in
-    ap (λ (at : ℕ). (leVal (take 8 (drop at reg)) + indexOf m (f .rm)) % 2 ^ 64) q
-    ∙ ap (λ (n : ℕ). n % 2 ^ 64) (sum (leVal (take 8 (drop (e * stepOf c) reg))) (indexOf m (f .rm)))))
-    (perRegister m c) 0
-  where
-    sum : (a i : ℕ) → a + i ≡ i + a * 1
-    sum a i = omega arith
+  pub scatter-elements : elements m (Scatter f)
+      ≡ vectorElements (scatterPlan m (classFor (Scatter f)) f) (vector m (f .zm)) (predicate m (f .pg)) (vector m (f .zt))
+  unfolding elements vectorElements
+  scatter-elements =
+      let v = scatterPlan m (classFor (Scatter f)) f in
+      ap (λ (n : ℕ). actives (activeAt m (Scatter f)) (elementAt m (Scatter f)) n 0) (scatter-count m f s)
+      ∙ actives-same (activeAt m (Scatter f)) (vectorActive v (predicate m (f .pg))) (elementAt m (Scatter f)) (vectorElement v (vector m (f .zm)) (vector m (f .zt)))
+      (scatter-active m f s) scatter-element (v .count) 0
 
-pub strided-elements : (m : Machine) (f : StridedFields)
-    → elements m (Strided f) ≡ stridedElements (stridedPlan m (classFor (Strided f)) f) (m .vb) (m .z)
-unfolding elements activeAt elementAt stridedElements stridedActive stridedElement stridedAddress
-strided-elements m f =
-    let c = classFor (Strided f) in
-    let s = stridedPlan m c f in
-    let a = startOf m c (f .rn) (f .rm) (f .multiple) in
-    actives-same (activeAt m (Strided f)) (stridedActive s) (elementAt m (Strided f)) (stridedElement s (m .vb) (m .z))
-    (λ e. refl)
-    (λ e. element-same e _ _ _ (wrapped a (e * stepOf c)))
-    (c .nreg * perRegister m c) 0
-  where
-    wrapped : (a d : ℕ) → (a + d) % 2 ^ 64 ≡ (a % 2 ^ 64 + d) % 2 ^ 64
-    wrapped a d = omega arith
+module _ (m : Machine) (f : QuadwordFields) (s : QuadwordIn f (classFor (Quadword f))) where
+  pub quadword-count : countOf m (Quadword f) ≡ quadwordPlan m (classFor (Quadword f)) f .count
+  quadword-count = one-register m (classFor (Quadword f)) (s .nreg)
+
+  pub quadword-active : (e : ℕ) → activeAt m (Quadword f) e ≡ vectorActive (quadwordPlan m (classFor (Quadword f)) f) (predicate m (f .pg)) e
+  unfolding activeAt vectorActive
+  quadword-active e = refl
+
+  sum : (a i : ℕ) → a + i ≡ i + a * 1
+  sum a i = omega arith
+
+  pub quadword-element : (e : ℕ)
+      → elementAt m (Quadword f) e ≡ vectorElement (quadwordPlan m (classFor (Quadword f)) f) (vector m (f .zn)) (vector m (f .zt)) e
+  unfolding elementAt vectorElement vectorAddress
+  quadword-element e =
+      let c = classFor (Quadword f) in
+      let reg = vector m (f .zn) in
+      let q : 2 * e * 8 ≡ e * stepOf c = omega (arith, ap (λ (n : ℕ). e * n) (s .sixteen)) in
+      element-same e _ _ (take (sizeOf c) (drop (e * stepOf c) (vector m (f .zt))))
+      (ap (λ (at : ℕ). (leVal (take 8 (drop at reg)) + indexOf m (f .rm)) % 2 ^ 64) q
+      ∙ ap (λ (n : ℕ). n % 2 ^ 64) (sum (leVal (take 8 (drop (e * stepOf c) reg))) (indexOf m (f .rm))))
+
+  pub quadword-elements : elements m (Quadword f)
+      ≡ vectorElements (quadwordPlan m (classFor (Quadword f)) f) (vector m (f .zn)) (predicate m (f .pg)) (vector m (f .zt))
+  unfolding elements vectorElements
+  quadword-elements =
+      let v = quadwordPlan m (classFor (Quadword f)) f in
+      ap (λ (n : ℕ). actives (activeAt m (Quadword f)) (elementAt m (Quadword f)) n 0) quadword-count
+      ∙ actives-same (activeAt m (Quadword f)) (vectorActive v (predicate m (f .pg))) (elementAt m (Quadword f)) (vectorElement v (vector m (f .zn)) (vector m (f .zt)))
+      quadword-active quadword-element (v .count) 0
+
+module _ (m : Machine) (f : StridedFields) where
+  pub strided-active : (e : ℕ) → activeAt m (Strided f) e ≡ stridedActive (stridedPlan m (classFor (Strided f)) f) e
+  unfolding activeAt stridedActive
+  strided-active e = refl
+
+  wrapped : (a d : ℕ) → (a + d) % 2 ^ 64 ≡ (a % 2 ^ 64 + d) % 2 ^ 64
+  wrapped a d = omega arith
+
+  pub strided-element : (e : ℕ) → elementAt m (Strided f) e ≡ stridedElement (stridedPlan m (classFor (Strided f)) f) (m .vb) (m .z) e
+  unfolding elementAt stridedElement stridedAddress
+  strided-element e =
+      let c = classFor (Strided f) in
+      element-same e _ _ _ (wrapped (startOf m c (f .rn) (f .rm) (f .multiple)) (e * stepOf c))
+
+  pub strided-elements : elements m (Strided f) ≡ stridedElements (stridedPlan m (classFor (Strided f)) f) (m .vb) (m .z)
+  unfolding elements stridedElements
+  strided-elements =
+      let c = classFor (Strided f) in
+      let s = stridedPlan m c f in
+      actives-same (activeAt m (Strided f)) (stridedActive s) (elementAt m (Strided f)) (stridedElement s (m .vb) (m .z))
+      strided-active strided-element (c .nreg * perRegister m c) 0

@@ -97,5 +97,8 @@ module _ (m : Machine) (c : Class) (l : Layout) (e : l ≡ layoutOf c) (rn rm : 
 pub register-in : (n r k s : ℕ) → r < k → s ≡ k * n → r * n + n ≤ s
 register-in n r k s h e = omega (arith, mul-le-mul-right n h)
 
+pub predicate-in : (vb r s : ℕ) → r < 16 → vb % 8 ≡ 0 → s ≡ 2 * vb → r * (vb / 8) + vb / 8 ≤ s
+predicate-in vb r s h e q = register-in (vb / 8) r 16 s h (omega arith)
+
 pub register-long : (n r : ℕ) (s : List ℕ) → r * n + n ≤ length s → length (register n s r) ≡ n
 register-long n r s h = omega (arith, length-take n (drop (r * n) s), length-drop (r * n) s)

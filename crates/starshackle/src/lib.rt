@@ -1,6 +1,7 @@
 // The interface for C and Rust: thin functions over the proved crates. The result is the verdict's number; other numbers go into
 // an array that the caller lends.
 mod codec;
+mod inspecting;
 mod running;
 
 ghost use mathlib.Core.Path.{_≡_};
@@ -8,6 +9,7 @@ ghost use Rattle.encoding.specs.Answers.{decodedNumber, decodedNumbers, encoded
 ghost use Rattle.encoding.specs.Decoding.{decodeOf};
 ghost use lib.ListN.{length};
 ghost use Rattle.elements.specs.Machine.{machine};
+ghost use Rattle.inspection.specs.Inspection.{inspectedOf, inspectedNumber, inspectedAnswers};
 ghost use Rattle.store.specs.Verdicts.{verdictOf, elementsFor, memoryAfter, number, numbers};
 ghost use Rattle.patch.specs.Answers.{judgedNumber, judgedNumbers};
 ghost use Rattle.patch.specs.Judging.{judged};
@@ -82,6 +84,26 @@ pub extern "C" fn starshackle_run(
     let v = store::run(vb, flags_of(flags), x, sp, z, p, base, memory, word);
     *answer = answers_of(v);
     number_of(v)
+}
+
+// What element e of the word's store is, whatever the flags: 0 and the element's five answers, or 1, 2 or 4 and zeros.
+#[no_mangle]
+pub extern "C" fn starshackle_element(
+    vb: usize,
+    x: &[u64; 31],
+    sp: u64,
+    z: &[u8],
+    p: &[u8],
+    word: u32,
+    e: u64,
+    answer: &mut [u64; 5],
+) -> u64
+    ensures number { λ r. ⌜ r ≡ inspectedNumber (inspectedOf (machine vb (now (x .entry)) sp (now (z .entry)) (now (p .entry))) word e) ⌝ }
+    ensures answers { λ _. ⌜ now (answer .exit) ≡ inspectedAnswers (inspectedOf (machine vb (now (x .entry)) sp (now (z .entry)) (now (p .entry))) word e) ⌝ }
+{
+    let inspected = inspection::inspect(vb, x, sp, z, p, word, e);
+    *answer = inspecting::answers_of(inspected);
+    inspecting::number_of(inspected)
 }
 
 // Applies a patch to the window of `memory` at the address `base`: the verdict's number, and the run and address of its detail,

@@ -47,7 +47,7 @@ pub struct Counts {
     pub bytes: u64,
 }
 
-fn length_ok(vb: usize) -> bool
+pub fn length_ok(vb: usize) -> bool
     ensures { λ r. ⌜ r ≡ lengthOk vb ⌝ }
 {
     (vb == 16) | (vb == 32) | (vb == 64) | (vb == 128) | (vb == 256)

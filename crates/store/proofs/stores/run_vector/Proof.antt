@@ -13,7 +13,7 @@ use Rattle.store.proofs.Concluding.{Cleared, Left, scan-clear, scan-out
 use Rattle.elements.specs.Machine.{register}
 use Rattle.elements.specs.Plans.{vectorElements}
 use Rattle.store.specs.Steps.{vectorsIn}
-use Rattle.elements.proofs.Planning.{register-in, register-long}
+use Rattle.elements.proofs.Planning.{register-in, predicate-in, register-long}
 use borrow.Author.Needs.{needs}
 use Rattle.store.proofs.stores.run_vector.Statement.{statement}
 use Rattle.store.proofs.stores.run_vector.Tie as tie
@@ -26,7 +26,7 @@ z-long : (a : tie.Start) (r : ℕ) → r < 32 → length (register (a .args .vb)
 z-long a r h = register-long (a .args .vb) r (a .args .z .now) (z-room a r h)
 
 p-room : (a : tie.Start) (r : ℕ) → r < 16 → r * (a .args .vb / 8) + a .args .vb / 8 ≤ length (a .args .p .now)
-p-room a r h = register-in (a .args .vb / 8) r 16 (length (a .args .p .now)) h (omega (arith, a .pre .1 .1, a .pre .0 .eighth))
+p-room a r h = predicate-in (a .args .vb) r (length (a .args .p .now)) h (a .pre .0 .eighth) (a .pre .1 .1)
 
 p-long : (a : tie.Start) (r : ℕ) → r < 16 → length (register (a .args .vb / 8) (a .args .p .now) r) ≡ a .args .vb / 8
 p-long a r h = register-long (a .args .vb / 8) r (a .args .p .now) (p-room a r h)

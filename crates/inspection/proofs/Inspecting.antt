@@ -1,0 +1,117 @@
+-- An element of a store as its plan's, and the refusals in their order. Assumes nothing.
+use mathlib.Core.Path.{_≡_, refl, sym, ap, ap₂, _∙_}
+use mathlib.Core.Bool.{Bool, true, false, not, cond, _&&_}
+use mathlib.Core.List.{List}
+use Prim.Native.Nat.{ℕ, _+_, _*_, _/_, _%_, _≤_, _<_}
+use lib.Dec.{eqb}
+use lib.ListN.{length}
+use borrow.Author.Tests.{eq-eqb, ne-eqb, lt-ltb, le-ltb}
+use Rattle.encoding.specs.Decoding.{decodeOf}
+use Rattle.encoding.specs.Encoding.{classFor}
+use Rattle.encoding.specs.declared.Decoded.{Decoded}
+use Rattle.encoding.specs.declared.ScatterFields.{ScatterFields}
+use Rattle.encoding.specs.declared.StridedFields.{StridedFields}
+use Rattle.encoding.specs.declared.QuadwordFields.{QuadwordFields}
+use Rattle.encoding.specs.declared.Store.the-variants.{Scatter, Strided, Quadword}
+use Rattle.writes.specs.LittleEndian.{Bytes}
+use Rattle.writes.specs.Elements as W
+use Rattle.elements.specs.Machine.{Machine, register}
+use Rattle.elements.specs.Plans.{vectorActive, vectorAddress, vectorElement, stridedActive, stridedAddress, stridedElement, scatterPlan, quadwordPlan, stridedPlan}
+use Rattle.elements.specs.declared.VectorPlan.{VectorPlan}
+use Rattle.elements.specs.declared.StridedPlan.{StridedPlan}
+use Rattle.elements.proofs.Shapes.{ScatterIn, QuadwordIn}
+use Rattle.elements.proofs.Listing.{scatter-count, scatter-active, scatter-element, quadword-count, quadword-active, quadword-element, strided-active, strided-element}
+use Rattle.store.specs.Verdicts.{lengthOk, registersOk}
+use Rattle.inspection.specs.Inspection.{counted, inspectedAt, inspectedFor, inspectedOf}
+use Rattle.inspection.specs.Steps.{vectorInspected, stridedInspected}
+use Rattle.inspection.specs.declared.Inspected.the-variants.{Length, Registers, Past, Element}
+
+-- ---- an element of a plan, by its count
+
+past : (e n : ℕ) (active : Bool) (address place size : ℕ) → n ≤ e → Past n ≡ counted e n active address place size
+past e n active address place size h = sym (ap (λ (b : Bool). cond b (Element active address place size n) (Past n)) (le-ltb e n h))
+
+found : (e n : ℕ) (active : Bool) (address place size : ℕ) → e < n → Element active address place size n ≡ counted e n active address place size
+found e n active address place size h = sym (ap (λ (b : Bool). cond b (Element active address place size n) (Past n)) (lt-ltb e n h))
+
+module _ (v : VectorPlan) (vb : ℕ) (z p : List ℕ) (e : ℕ) where
+  pub vector-past : v .count ≤ e → Past (v .count) ≡ vectorInspected v vb z p e
+  unfolding vectorInspected
+  vector-past h = past e (v .count) _ _ _ _ h
+
+  pub vector-found : (o g : List ℕ) (active : Bool) (address : ℕ) → e < v .count → o ≡ register vb z (v .offsets) → g ≡ register (vb / 8) p (v .governing)
+      → active ≡ vectorActive v g e → address ≡ vectorAddress v o e
+      → Element active address (v .stored * vb + e * v .step) (v .size) (v .count) ≡ vectorInspected v vb z p e
+  unfolding vectorInspected
+  vector-found o g active address h qo qg r s =
+      ap₂ (λ (b : Bool) (a : ℕ). Element b a (v .stored * vb + e * v .step) (v .size) (v .count))
+      (r ∙ ap (λ (y : List ℕ). vectorActive v y e) qg) (s ∙ ap (λ (y : List ℕ). vectorAddress v y e) qo)
+      ∙ found e (v .count) _ _ _ _ h
+
+module _ (s : StridedPlan) (vb e : ℕ) where
+  pub strided-past : s .nreg * s .per ≤ e → Past (s .nreg * s .per) ≡ stridedInspected s vb e
+  unfolding stridedInspected
+  strided-past h = past e (s .nreg * s .per) _ _ _ _ h
+
+  pub strided-found : (active : Bool) (address : ℕ) → e < s .nreg * s .per → active ≡ stridedActive s e → address ≡ stridedAddress s e
+      → Element active address ((s .first + e / s .per * s .stride) * vb + e % s .per * s .step) (s .size) (s .nreg * s .per) ≡ stridedInspected s vb e
+  unfolding stridedInspected
+  strided-found active address h r q =
+      ap₂ (λ (b : Bool) (a : ℕ). Element b a ((s .first + e / s .per * s .stride) * vb + e % s .per * s .step) (s .size) (s .nreg * s .per)) r q
+      ∙ found e (s .nreg * s .per) _ _ _ _ h
+
+-- ---- a store's element is its plan's
+
+counted-same : (e : ℕ) {n n′ a a′ : ℕ} {b b′ : Bool} (place size : ℕ) → n ≡ n′ → b ≡ b′ → a ≡ a′
+    → counted e n b a place size ≡ counted e n′ b′ a′ place size
+counted-same e place size q r s = λ i. counted e (q i) (r i) (s i) place size
+
+module _ (m : Machine) (e : ℕ) where
+  pub scatter-inspected : (f : ScatterFields) → ScatterIn f (classFor (Scatter f)) → Bytes (m .z)
+      → vectorInspected (scatterPlan m (classFor (Scatter f)) f) (m .vb) (m .z) (m .p) e ≡ inspectedAt m (Scatter f) e
+  unfolding inspectedAt vectorInspected vectorElement
+  scatter-inspected f s b =
+      sym (counted-same e _ _ (scatter-count m f s) (scatter-active m f s e) (ap (λ (y : W.Element). y .address) (scatter-element m b f s e)))
+
+  pub quadword-inspected : (f : QuadwordFields) → QuadwordIn f (classFor (Quadword f))
+      → vectorInspected (quadwordPlan m (classFor (Quadword f)) f) (m .vb) (m .z) (m .p) e ≡ inspectedAt m (Quadword f) e
+  unfolding inspectedAt vectorInspected vectorElement
+  quadword-inspected f s =
+      sym (counted-same e _ _ (quadword-count m f s) (quadword-active m f s e) (ap (λ (y : W.Element). y .address) (quadword-element m f s e)))
+
+  pub strided-inspected : (f : StridedFields) → stridedInspected (stridedPlan m (classFor (Strided f)) f) (m .vb) e ≡ inspectedAt m (Strided f) e
+  unfolding inspectedAt stridedInspected stridedElement
+  strided-inspected f =
+      sym (counted-same e _ _ refl (strided-active m f e) (ap (λ (y : W.Element). y .address) (strided-element m f e)))
+
+-- ---- refusals in their order
+
+module _ (m : Machine) (word e : ℕ) where
+  pub inspected-length : (b : Bool) → b ≡ lengthOk (m .vb) → not b ≡ true → Length ≡ inspectedOf m word e
+  unfolding inspectedOf
+  inspected-length b q t =
+      sym (ap (λ (y : Bool). cond y Length (cond (not (registersOk m)) Registers (inspectedFor m (decodeOf word) e))) (ap not (sym q) ∙ t))
+
+  module _ (b : Bool) (q : b ≡ lengthOk (m .vb)) (t : not b ≡ false) where
+    past-1 : inspectedOf m word e ≡ cond (not (registersOk m)) Registers (inspectedFor m (decodeOf word) e)
+    unfolding inspectedOf
+    past-1 = ap (λ (y : Bool). cond y Length (cond (not (registersOk m)) Registers (inspectedFor m (decodeOf word) e))) (ap not (sym q) ∙ t)
+
+    by-registers : (d : Bool) → registersOk m ≡ d → inspectedOf m word e ≡ cond (not d) Registers (inspectedFor m (decodeOf word) e)
+    by-registers d r = past-1 ∙ ap (λ (y : Bool). cond (not y) Registers (inspectedFor m (decodeOf word) e)) r
+
+    pub inspected-z : (length (m .z) ≡ 32 * m .vb → ⊥) → Registers ≡ inspectedOf m word e
+    unfolding registersOk
+    inspected-z h = sym (by-registers false (ap (λ (y : Bool). y && eqb (length (m .p)) (2 * m .vb)) (ne-eqb (length (m .z)) (32 * m .vb) h)))
+
+    module _ (qz : length (m .z) ≡ 32 * m .vb) where
+      pub inspected-p : (length (m .p) ≡ 2 * m .vb → ⊥) → Registers ≡ inspectedOf m word e
+      unfolding registersOk
+      inspected-p h = sym (by-registers false (ap₂ _&&_ (eq-eqb (length (m .z)) (32 * m .vb) qz) (ne-eqb (length (m .p)) (2 * m .vb) h)))
+
+      module _ (qp : length (m .p) ≡ 2 * m .vb) where
+        pub inspected-decoded : (d : Decoded) → d ≡ decodeOf word → inspectedFor m d e ≡ inspectedOf m word e
+        unfolding registersOk
+        inspected-decoded d r =
+            ap (λ (y : Decoded). inspectedFor m y e) r
+            ∙ sym (by-registers true (ap₂ _&&_ (eq-eqb (length (m .z)) (32 * m .vb) qz) (eq-eqb (length (m .p)) (2 * m .vb) qp)))

@@ -1,0 +1,3 @@
+-- What one element of a word's store is, over the elements and verdicts of document 01 (shared/papers/01-scope.md).
+pub mod Inspection
+pub mod Steps

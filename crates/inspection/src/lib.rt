@@ -1,0 +1,127 @@
+// One element of a word's store on a lent machine: no flag is looked at, and no window judged.
+ghost use mathlib.Core.Path.{_≡_};
+ghost use mathlib.Core.Bool.{false};
+ghost use Prim.Native.Nat.{_*_};
+ghost use lib.ListN.{length};
+ghost use Rattle.encoding.specs.Encoding.{refused};
+ghost use Rattle.elements.specs.Machine.{machine};
+ghost use Rattle.elements.specs.Plans.{VectorSound, StridedSound};
+ghost use Rattle.store.specs.Steps.{Sound};
+ghost use Rattle.inspection.specs.Inspection.{inspectedAt, inspectedOf};
+ghost use Rattle.inspection.specs.Steps.{vectorInspected, stridedInspected};
+use elements::StridedPlan;
+use elements::VectorPlan;
+use encoding::Decoded;
+use encoding::Store;
+
+// What an element is: refused as running its store would be, past the last of `count` elements, or one of them with its address, the
+// place of its first byte in the Z buffer and its bytes' number.
+pub enum Inspected {
+    Length,
+    Registers,
+    Undefined,
+    Past {
+        count: u64,
+    },
+    Element {
+        active: bool,
+        address: u64,
+        place: u64,
+        size: u64,
+        count: u64,
+    },
+}
+
+// Element e of a scatter or quadword store. It is compared before it is narrowed.
+fn inspect_vector(v: VectorPlan, vb: usize, z: &[u8], p: &[u8], e: u64) -> Inspected
+    requires { ⌜ VectorSound v vb ⌝ }
+    requires { ⌜ (length (now z) ≡ 32 * vb) × (length (now p) ≡ 2 * vb) ⌝ }
+    ensures { λ r. ⌜ r ≡ vectorInspected v vb (now (z .entry)) (now (p .entry)) e ⌝ }
+{
+    let count = v.count as u64;
+    if count <= e {
+        return Inspected::Past { count };
+    }
+    let at = e as usize;
+    let offsets = elements::register_of(z, vb, v.offsets);
+    let governing = elements::register_of(p, vb / 8, v.governing);
+    let active = elements::vector_active(v, governing, at);
+    let address = elements::vector_address(v, offsets, at);
+    Inspected::Element {
+        active,
+        address,
+        place: (v.stored * vb + at * v.step) as u64,
+        size: v.size as u64,
+        count,
+    }
+}
+
+// Element e of a strided store. It is compared before it is narrowed.
+fn inspect_strided(s: StridedPlan, vb: usize, e: u64) -> Inspected
+    requires { ⌜ StridedSound s vb ⌝ }
+    ensures { λ r. ⌜ r ≡ stridedInspected s vb e ⌝ }
+{
+    let count = (s.nreg * s.per) as u64;
+    if count <= e {
+        return Inspected::Past { count };
+    }
+    let at = e as usize;
+    let register = s.first + at / s.per * s.stride;
+    let active = elements::strided_active(s, at);
+    let address = elements::strided_address(s, at);
+    Inspected::Element {
+        active,
+        address,
+        place: (register * vb + at % s.per * s.step) as u64,
+        size: s.size as u64,
+        count,
+    }
+}
+
+// Element e of a decoded store.
+fn inspect_store(
+    s: Store,
+    vb: usize,
+    x: &[u64; 31],
+    sp: u64,
+    z: &[u8],
+    p: &[u8],
+    e: u64,
+) -> Inspected
+    requires { ⌜ refused s ≡ false ⌝ }
+    requires { ⌜ Sound vb (now z) (now p) ⌝ }
+    ensures { λ r. ⌜ r ≡ inspectedAt (machine vb (now (x .entry)) sp (now (z .entry)) (now (p .entry))) s e ⌝ }
+{
+    match s {
+        Store::Scatter(f) => inspect_vector(elements::scatter_plan(f, vb, x, sp), vb, z, p, e),
+        Store::Strided(f) => inspect_strided(elements::strided_plan(f, vb, x, sp, p), vb, e),
+        Store::Quadword(f) => inspect_vector(elements::quadword_plan(f, vb, x), vb, z, p, e),
+    }
+}
+
+// What element e of the word's store is on the lent machine.
+pub fn inspect(
+    vb: usize,
+    x: &[u64; 31],
+    sp: u64,
+    z: &[u8],
+    p: &[u8],
+    word: u32,
+    e: u64,
+) -> Inspected
+    ensures { λ r. ⌜ r ≡ inspectedOf (machine vb (now (x .entry)) sp (now (z .entry)) (now (p .entry))) word e ⌝ }
+{
+    if !store::length_ok(vb) {
+        return Inspected::Length;
+    }
+    if z.len() != 32 * vb {
+        return Inspected::Registers;
+    }
+    if p.len() != 2 * vb {
+        return Inspected::Registers;
+    }
+    match encoding::decode(word) {
+        Decoded::Known(s) => inspect_store(s, vb, x, sp, z, p, e),
+        Decoded::Undefined => Inspected::Undefined,
+    }
+}
