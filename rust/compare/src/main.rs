@@ -4,10 +4,13 @@
 
 mod decoding;
 mod encoding;
+mod patches;
 mod patterns;
 mod random;
 mod reference;
 mod report;
+mod running;
+mod timing;
 
 use decoding::Extent;
 use reference::{Outcome, Reference};
@@ -18,70 +21,125 @@ use std::process::ExitCode;
 
 const USAGE: &str = "\
 usage: compare (--all | --sample) [--threads N]
-  compare decoding and encoding, decoding on every word or on a sample where no class is
+  compare everything, decoding on every word or on a sample where no class is
 usage: compare --texts BYTE
-  print each word of a class with this top byte: the word, its class, its assembly text";
+  print each word of a class with this top byte: the word, its class, its assembly text
+usage: compare --patches [STRINGS [SEED]] [--threads N]
+  compare judging and applying patches on random strings
+usage: compare --bench-patches
+  measure applying patches";
+
+const RUN_USAGE: &str = "\
+usage: compare --run [STORES] [--threads N]
+  compare running on random stores
+usage: compare --store NUMBER
+  compare running on the random store with this number
+usage: compare --bench
+  measure running";
 
 /// What every answer holds before a call, so that an entry left alone shows.
 const GARBAGE: u64 = 0xD1D2_D3D4_D5D6_D7D8;
+
+/// Threads that compare where no number is given.
+const THREADS: usize = 2;
 
 /// What the command line asks for.
 enum Task {
     Compare { extent: Extent, threads: usize },
     Texts { top: u8 },
+    Patches { strings: u64, seed: u64, threads: usize },
+    BenchPatches,
+    Run { stores: u64, threads: usize },
+    Store { number: u64 },
+    Bench,
 }
 
 fn main() -> ExitCode {
     let arguments: Vec<String> = std::env::args().skip(1).collect();
+    let arguments: Vec<&str> = arguments.iter().map(String::as_str).collect();
     match task(&arguments) {
-        Some(Task::Compare { extent, threads }) => compare(extent, threads),
-        Some(Task::Texts { top }) => match texts(top) {
-            Ok(()) => ExitCode::SUCCESS,
-            Err(error) => {
-                eprintln!("compare: {error}");
-                ExitCode::FAILURE
-            }
-        },
+        Some(task) => perform(task),
         None => {
             eprintln!("{USAGE}");
+            eprintln!("{RUN_USAGE}");
             ExitCode::from(2)
         }
     }
 }
 
-fn task(arguments: &[String]) -> Option<Task> {
-    let (mut extent, mut threads) = (None, 2);
-    let mut arguments = arguments.iter();
-    while let Some(argument) = arguments.next() {
-        match argument.as_str() {
-            "--all" => extent = Some(Extent::All),
-            "--sample" => extent = Some(Extent::Sample),
-            "--threads" => threads = arguments.next()?.parse().ok().filter(|&n| n > 0)?,
-            "--texts" => {
-                let top = u8::from_str_radix(arguments.next()?, 16).ok()?;
-                return arguments.next().is_none().then_some(Task::Texts { top });
-            }
-            _ => return None,
+fn task(arguments: &[&str]) -> Option<Task> {
+    let (subject, threads) = match arguments {
+        ["--threads", number, subject @ ..] | [subject @ .., "--threads", number] => {
+            (subject, number.parse().ok().filter(|&number| number > 0)?)
         }
-    }
-    Some(Task::Compare { extent: extent?, threads })
+        subject => (subject, THREADS),
+    };
+    Some(match subject {
+        ["--all"] => Task::Compare { extent: Extent::All, threads },
+        ["--sample"] => Task::Compare { extent: Extent::Sample, threads },
+        ["--texts", top] => Task::Texts { top: u8::from_str_radix(top, 16).ok()? },
+        ["--patches", numbers @ ..] => patches_task(numbers, threads)?,
+        ["--bench-patches"] => Task::BenchPatches,
+        ["--run"] => Task::Run { stores: running::STORES, threads },
+        ["--run", stores] => Task::Run { stores: stores.parse().ok()?, threads },
+        ["--store", number] => Task::Store { number: number.parse().ok()? },
+        ["--bench"] => Task::Bench,
+        _ => return None,
+    })
 }
 
-fn compare(extent: Extent, threads: usize) -> ExitCode {
-    let (reference, report) = (Reference::new(), Report::default());
-    encoding::run(&reference, &report);
-    if !report.is_full() {
-        decoding::run(&reference, &report, extent, threads);
+/// The numbers: how many strings, and the seed, or the first or none of them.
+fn patches_task(numbers: &[&str], threads: usize) -> Option<Task> {
+    let (strings, seed) = match numbers {
+        [] => (patches::STRINGS, patches::SEED),
+        [strings] => (strings.parse().ok()?, patches::SEED),
+        [strings, seed] => (strings.parse().ok()?, seed.parse().ok()?),
+        _ => return None,
+    };
+    Some(Task::Patches { strings, seed, threads })
+}
+
+fn perform(task: Task) -> ExitCode {
+    let report = Report::default();
+    match task {
+        Task::Compare { extent, threads } => compare(&report, extent, threads),
+        Task::Texts { top } => return listed(texts(top)),
+        Task::Patches { strings, seed, threads } => patches::run(&report, strings, seed, threads),
+        Task::BenchPatches => return listed(patches::bench::print()),
+        Task::Run { stores, threads } => running::run(&report, stores, threads),
+        Task::Store { number } => running::one(&report, number),
+        Task::Bench => return listed(running::bench::print()),
     }
-    match report.differences() {
-        0 => {
-            println!("compare: no difference");
-            ExitCode::SUCCESS
-        }
-        _ => {
-            println!("compare: the model differs");
+    let (passed, text) = match (report.differences(), report.misses()) {
+        (0, 0) => (ExitCode::SUCCESS, "no difference"),
+        (0, _) => (ExitCode::FAILURE, "no difference, but not everything was hit"),
+        _ => (ExitCode::FAILURE, "the model differs"),
+    };
+    println!("compare: {text}");
+    passed
+}
+
+fn listed(listing: io::Result<()>) -> ExitCode {
+    match listing {
+        Ok(()) => ExitCode::SUCCESS,
+        Err(error) => {
+            eprintln!("compare: {error}");
             ExitCode::FAILURE
         }
+    }
+}
+
+fn compare(report: &Report, extent: Extent, threads: usize) {
+    let reference = Reference::new();
+    encoding::run(&reference, report);
+    if !report.is_full() {
+        decoding::run(&reference, report, extent, threads);
+    }
+    if !report.is_full() {
+        patches::run(report, patches::STRINGS, patches::SEED, threads);
+    }
+    if !report.is_full() {
+        running::run(report, running::STORES, threads);
     }
 }
 

@@ -7,15 +7,20 @@ use std::sync::atomic::{AtomicUsize, Ordering};
 /// After this many differences the comparison stops.
 const MOST: usize = 10;
 
-/// Prints the differences and counts them.
+/// Prints the differences and counts them, and what was to be compared and was not.
 #[derive(Default)]
 pub struct Report {
     differences: AtomicUsize,
+    misses: AtomicUsize,
 }
 
 impl Report {
     pub fn differences(&self) -> usize {
         self.differences.load(Ordering::Relaxed)
+    }
+
+    pub fn misses(&self) -> usize {
+        self.misses.load(Ordering::Relaxed)
     }
 
     /// Whether enough was seen.
@@ -40,13 +45,30 @@ impl Report {
 
     #[cold]
     fn differ<const N: usize>(&self, model: &Outcome<N>, right: &Outcome<N>, input: &str) {
+        self.tell(|| format!("{input}\n{}", answers(model, right)));
+    }
+
+    /// Counts a difference, and prints it unless there were enough.
+    pub fn tell(&self, difference: impl FnOnce() -> String) {
         let number = self.differences.fetch_add(1, Ordering::Relaxed) + 1;
         if number <= MOST {
-            let line = |o: &Outcome<N>| format!("verdict {}, {:X?}", o.verdict, o.numbers);
-            let (model, right) = (line(model), line(right));
-            println!("difference {number}: {input}\n  model {model}\n  right {right}");
+            println!("difference {number}: {}", difference());
         }
     }
+
+    /// Counts and prints what no case was for, unless the comparison has stopped before its end.
+    pub fn miss(&self, what: &str) {
+        if !self.is_full() {
+            self.misses.fetch_add(1, Ordering::Relaxed);
+            println!("not hit: {what}");
+        }
+    }
+}
+
+/// Two outcomes as lines of text.
+pub fn answers<const N: usize>(model: &Outcome<N>, right: &Outcome<N>) -> String {
+    let line = |o: &Outcome<N>| format!("verdict {}, {:X?}", o.verdict, o.numbers);
+    format!("  model {}\n  right {}", line(model), line(right))
 }
 
 /// A word as a number and as Arm's assembly text.

@@ -2,6 +2,7 @@
 //!
 //! Nothing checks these declarations against the library's source: keep them equal by hand.
 
+use crate::run::{Machine, Window};
 use crate::{Answer, Fields};
 
 extern "C" {
@@ -20,4 +21,94 @@ pub fn decode_fields(word: u32, fields: &mut Fields) -> u64 {
 pub fn encode_fields(fields: &Fields, answer: &mut Answer) -> u64 {
     // SAFETY: the library reads eight entries, writes five and keeps no pointer.
     unsafe { starshackle_encode(fields, answer) }
+}
+
+extern "C" {
+    fn starshackle_judge(patch: *const u8, patch_len: usize, answer: *mut Answer) -> u64;
+    fn starshackle_apply(
+        base: u64,
+        memory: *mut u8,
+        memory_len: usize,
+        patch: *const u8,
+        patch_len: usize,
+        answer: *mut Answer,
+    ) -> u64;
+}
+
+/// Judges whether bytes are a patch, writes all of `answer` and returns the verdict's number. The
+/// entries: in a refusal, how many runs were whole and acceptable, and where they end; for a patch,
+/// its runs and payload bytes in the third and fourth place; 0 elsewhere.
+pub fn judge_numbers(patch: &[u8], answer: &mut Answer) -> u64 {
+    // SAFETY: the library reads the patch within its length, writes the five entries and keeps no
+    // pointer.
+    unsafe { starshackle_judge(patch.as_ptr(), patch.len(), answer) }
+}
+
+/// Applies a patch to the window of `memory` from `base` on, writes all of `answer` and returns the
+/// verdict's number. The entries: the run of the detail, its address, runs, payload bytes, 0.
+pub fn apply_numbers(base: u64, memory: &mut [u8], patch: &[u8], answer: &mut Answer) -> u64 {
+    let (memory_len, patch_len) = (memory.len(), patch.len());
+    let (memory, patch) = (memory.as_mut_ptr(), patch.as_ptr());
+    // SAFETY: each buffer comes with its length, and the library stays within it, so that the
+    // pointer of an empty one is never followed. It writes to the memory and the five entries
+    // alone, which nothing else refers to, and keeps no pointer.
+    unsafe { starshackle_apply(base, memory, memory_len, patch, patch_len, answer) }
+}
+
+extern "C" {
+    fn starshackle_run(
+        vb: usize,
+        flags: u64,
+        x: *const [u64; 31],
+        sp: u64,
+        z: *const u8,
+        z_len: usize,
+        p: *const u8,
+        p_len: usize,
+        base: u64,
+        memory: *mut u8,
+        memory_len: usize,
+        word: u32,
+        answer: *mut Answer,
+    ) -> u64;
+    fn starshackle_element(
+        vb: usize,
+        x: *const [u64; 31],
+        sp: u64,
+        z: *const u8,
+        z_len: usize,
+        p: *const u8,
+        p_len: usize,
+        word: u32,
+        e: u64,
+        answer: *mut Answer,
+    ) -> u64;
+}
+
+/// Runs a word's store over the window, writes all of `answer` and returns the verdict's number.
+/// The entries: the element of the detail, its address, active elements, bytes, 0.
+pub fn run_numbers(machine: &Machine, window: Window, word: u32, answer: &mut Answer) -> u64 {
+    let Machine { vb, flags, ref x, sp, z, p } = *machine;
+    let Window { base, memory } = window;
+    let (z_len, p_len, memory_len) = (z.len(), p.len(), memory.len());
+    let (z, p, memory) = (z.as_ptr(), p.as_ptr(), memory.as_mut_ptr());
+    // SAFETY: each buffer comes with its length, and the library stays within it, so that the
+    // pointer of an empty one is never followed. It writes to the memory and the five entries
+    // alone, which nothing else refers to, and keeps no pointer.
+    unsafe {
+        starshackle_run(
+            vb, flags.0, x, sp, z, z_len, p, p_len, base, memory, memory_len, word, answer,
+        )
+    }
+}
+
+/// Tells what an element of a word's store is, writes all of `answer` and returns the verdict's
+/// number. The entries: whether it is active, its address, the place of its first byte in the Z
+/// buffer, its bytes, and how many elements the store has.
+pub fn element_numbers(machine: &Machine, word: u32, number: u64, answer: &mut Answer) -> u64 {
+    let Machine { vb, ref x, sp, z, p, .. } = *machine;
+    let (z_len, p_len) = (z.len(), p.len());
+    let (z, p) = (z.as_ptr(), p.as_ptr());
+    // SAFETY: as above, with no memory.
+    unsafe { starshackle_element(vb, x, sp, z, z_len, p, p_len, word, number, answer) }
 }

@@ -8,8 +8,11 @@
 pub mod assembly;
 #[allow(unsafe_code)]
 mod ffi;
+pub mod patch;
+pub mod run;
 
-pub use ffi::{decode_fields, encode_fields};
+pub use ffi::{apply_numbers, decode_fields, encode_fields, judge_numbers};
+pub use ffi::{element_numbers, run_numbers};
 
 /// A decoded store as numbers: class, index, extension, predicate, base, register, multiple, 0.
 pub type Fields = [u64; 8];
