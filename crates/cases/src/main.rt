@@ -1,8 +1,11 @@
-// Document 01's patches and damaged ones, judged and applied. Each line is one call and its answer; stdout holds what is expected.
+// Document 01's patches and damaged ones, judged and applied, and its other cases at the edges, run. Each line is one call and its
+// answer; stdout holds what is expected.
 mod large;
+mod stores;
 
 use patch::Applied;
 use patch::Judged;
+use store::Verdict;
 
 fn say(text: &[u8]) {
     io::write_all(1, text);
@@ -215,6 +218,73 @@ fn too_large() {
     judged(b"1,025 bytes", &long);
 }
 
+// "done, N elements, B bytes", or the verdict's number with its detail.
+fn ran(name: &[u8], v: Verdict) {
+    say(name);
+    match v {
+        Verdict::Done { elements, bytes } => {
+            number(elements as usize, b" elements, ");
+            number(bytes as usize, b" bytes, done\n");
+        }
+        Verdict::Fault {
+            element,
+            address: a,
+        } => {
+            number(element as usize, b" is the lowest element outside, at ");
+            address(a, b"h: 7 fault\n");
+        }
+        Verdict::Length => say(b"1 length\n"),
+        Verdict::Registers => say(b"2 registers\n"),
+        Verdict::Window => say(b"3 window\n"),
+        Verdict::Undefined => say(b"4 undefined\n"),
+        Verdict::Illegal => say(b"5 illegal\n"),
+        Verdict::Stack => say(b"6 stack\n"),
+    }
+}
+
+// A counter of all elements, and one of none with no window.
+fn counters() {
+    let mut m = [0xeeu8; 32];
+    ran(b"counter 8008h: ", stores::strided(8, 0x80, 0x1000, &mut m));
+    shown(&m);
+    let mut none: [u8; 0] = [];
+    ran(
+        b"counter 8000h, no window: ",
+        stores::strided(0, 0x80, 0x1000, &mut none),
+    );
+}
+
+// A doubleword at the end of a window of 16 bytes, and one byte further.
+fn last_byte() {
+    let mut m = [0xeeu8; 16];
+    ran(
+        b"doubleword at 1008h: ",
+        stores::scatter(0x1000, 8, 0x1000, &mut m),
+    );
+    shown(&m);
+    ran(
+        b"doubleword at 1009h: ",
+        stores::scatter(0x1000, 9, 0x1000, &mut m),
+    );
+    shown(&m);
+}
+
+// A window up to 2^64, and one byte more.
+fn at_the_top() {
+    let mut m = [0xeeu8; 16];
+    ran(
+        b"window up to 2^64: ",
+        stores::scatter(0xffff_ffff_ffff_fff0, 8, 0xffff_ffff_ffff_fff0, &mut m),
+    );
+    shown(&m);
+    let mut more = [0xeeu8; 17];
+    ran(
+        b"window over 2^64: ",
+        stores::scatter(0xffff_ffff_ffff_fff0, 8, 0xffff_ffff_ffff_fff0, &mut more),
+    );
+    shown(&more);
+}
+
 fn main() {
     example();
     windows();
@@ -226,4 +296,7 @@ fn main() {
     in_order();
     largest();
     too_large();
+    counters();
+    last_byte();
+    at_the_top();
 }
