@@ -4,4 +4,5 @@ pub mod Parts
 pub mod Concluding
 pub mod Running
 pub mod Cases
+pub mod Listed
 pub mod Statements

@@ -1,15 +1,19 @@
 -- The proofs of specs/Statements.antt, each of exactly the type that stands there. Assumes nothing.
 use mathlib.Core.Path.{_≡_, refl, sym, ap, ap₂, _∙_, subst}
-use mathlib.Core.Bool.{Bool, true, false, not, cond}
+use mathlib.Core.Bool.{Bool, true, false, not, cond, _&&_}
 use mathlib.Core.List.{List, [], _∷_}
 use mathlib.Core.Option.{Option, none, some, Option·getD}
 use Prim.Native.Nat.{ℕ, zero, suc, _+_, _-_, _*_, _/_, _%_, _≤_, _<_}
 use native.Mathlib.Nat.{one-mul, mul-le-mul-right}
 use native.Mathlib.Omega.{arith}
 use lib.ListN.{length, getD, take, drop, length-take, length-drop}
+use lib.Dec.{T, eqb}
+use borrow.Author.Tests.{eqb-true}
+use lib.Ieee.Fits.{and-l, and-r}
 use lib.Seq.{getD-take, getD-drop, drop-drop}
 use Rattle.encoding.specs.Decoding.{decodeOf}
 use Rattle.encoding.specs.Encoding.{classFor, featureOf, refused}
+use Rattle.encoding.proofs.Statements.{decoded-accepted}
 use Rattle.encoding.specs.declared.Decoded.{Decoded}
 use Rattle.encoding.specs.declared.Decoded.the-variants as D
 use Rattle.encoding.specs.declared.Store.{Store}
@@ -29,10 +33,12 @@ use Rattle.elements.proofs.Shapes.{scatter-in, quadword-in, strided-in}
 use Rattle.elements.proofs.Soundness.{scatter-sound, quadword-sound, strided-sound}
 use Rattle.store.specs.Steps.{Sound}
 use Rattle.store.specs.Verdicts.{lengthOk, registersOk, flagOn, illegal, onStack, stack, firstOutside, concluded, settled, verdictFor, verdictOf, elementsFor, memoryAfter, number, Ran}
-use Rattle.store.specs.Statements.{OneOutcome, RefusalsLeaveMemory, PlaceByPlace, Rising, InAscendingOrder, CountsOfDone, ElementBytes, undefinedIs, illegalIs, stackIs, faultIs, isOutside, onward, firstHolding, FirstConditionDecides}
+use Rattle.store.specs.Statements.{OneOutcome, RefusalsLeaveMemory, PlaceByPlace, Listed, ListsTheActive, liesIn, FaultNamesTheLowest, Rising, InAscendingOrder, CountsOfDone, ElementBytes, undefinedIs, illegalIs, stackIs, faultIs, isOutside, onward, firstHolding, FirstConditionDecides}
 use Rattle.store.specs.declared.Flags.{Flags}
 use Rattle.store.specs.declared.Verdict.{Verdict}
 use Rattle.store.specs.declared.Verdict.the-variants.{Done, Length, Registers, Window, Undefined, Illegal, Stack, Fault}
+use Rattle.store.proofs.Concluding.{length-sound}
+use Rattle.store.proofs.Listed.{listed-among, listed-at, first-outside}
 use Rattle.store.proofs.Spans.{bytes-in, place-in, register-below}
 
 -- ---- demand 1
@@ -159,29 +165,59 @@ part-bytes vb r at n z h l =
           ∙ ap (λ (i : ℕ). getD z i 0) (omega arith)),
     )
 
-pub element-bytes : ElementBytes
+element-of : (m : Machine) (s : Store) (e : ℕ) → Sound (m .vb) (m .z) (m .p) → refused s ≡ false → e < countOf m s
+    → (length (elementAt m s e .bytes) ≡ sizeOf (classFor s))
+      × ((k : ℕ) → k < sizeOf (classFor s)
+        → getD (elementAt m s e .bytes) k 0 ≡ getD (m .z) (registerIn m (classFor s) s e * m .vb + placeIn m (classFor s) s e + k) 0)
 unfolding elementAt
-element-bytes m (Scatter f) e o a h =
+element-of m (Scatter f) e o a h =
     let c = classFor (Scatter f) in
     let s = scatter-in f a in
     let v = scatter-sound m (o .low) (o .high) (o .sixteen) f s in
     let i : e < perRegister m c = omega (arith, ap (λ (n : ℕ). n * perRegister m c) (s .nreg), one-mul (perRegister m c)) in
     part-bytes (m .vb) (f .zt) (e * stepOf c) (sizeOf c) (m .z) (register-in (m .vb) (f .zt) 32 (length (m .z)) (s .zt) (o .long-z))
     (bytes-in (scatterPlan m c f) (m .vb) v e i)
-element-bytes m (Strided f) e o a h =
+element-of m (Strided f) e o a h =
     let c = classFor (Strided f) in
     let s = strided-in f a in
     let v = strided-sound m (o .low) (o .high) (o .sixteen) f s in
     part-bytes (m .vb) (registerIn m c (Strided f) e) (placeIn m c (Strided f) e) (sizeOf c) (m .z)
     (register-in (m .vb) (registerIn m c (Strided f) e) 32 (length (m .z)) (register-below (stridedPlan m c f) (m .vb) v e h) (o .long-z))
     (place-in (stridedPlan m c f) (m .vb) v e h)
-element-bytes m (Quadword f) e o a h =
+element-of m (Quadword f) e o a h =
     let c = classFor (Quadword f) in
     let s = quadword-in f a in
     let v = quadword-sound m (o .low) (o .high) (o .sixteen) f s in
     let i : e < perRegister m c = omega (arith, ap (λ (n : ℕ). n * perRegister m c) (s .nreg), one-mul (perRegister m c)) in
     part-bytes (m .vb) (f .zt) (e * stepOf c) (sizeOf c) (m .z) (register-in (m .vb) (f .zt) 32 (length (m .z)) (s .zt) (o .long-z))
     (bytes-in (quadwordPlan m c f) (m .vb) v e i)
+
+sound : (m : Machine) → lengthOk (m .vb) ≡ true → registersOk m ≡ true → Sound (m .vb) (m .z) (m .p)
+unfolding registersOk
+sound m v r =
+    let b = length-sound (m .vb) v in
+    let t : T (eqb (length (m .z)) (32 * m .vb) && eqb (length (m .p)) (2 * m .vb)) = subst T (sym r) tt in
+    record {
+      low = b .low;
+      high = b .high;
+      sixteen = b .sixteen;
+      long-z = eqb-true (length (m .z)) (32 * m .vb) (told _ (and-l (eqb (length (m .z)) (32 * m .vb)) (eqb (length (m .p)) (2 * m .vb)) t));
+      long-p = eqb-true (length (m .p)) (2 * m .vb) (told _ (and-r (eqb (length (m .z)) (32 * m .vb)) (eqb (length (m .p)) (2 * m .vb)) t));
+    }
+  where
+    told : (c : Bool) → T c → c ≡ true
+    told true x = refl
+
+pub element-bytes : ElementBytes
+element-bytes m word s e v r w d h = element-of m s e (sound m v r) (decoded-accepted word s w d) h
+
+-- ---- the list of active elements
+
+pub lists-the-active : ListsTheActive
+unfolding elements
+lists-the-active m s x =
+    ((λ l. let a = listed-among (activeAt m s) (elementAt m s) (countOf m s) 0 x l in (a .at, omega (arith, a .below), a .is-on, a .is)),
+      (λ a. subst (λ (y : Element). Listed y (elements m s)) (sym (a .3)) (listed-at (activeAt m s) (elementAt m s) (countOf m s) (a .0) (a .1) (a .2))))
 
 -- ---- the order of the verdicts
 
@@ -212,3 +248,51 @@ first-condition-decides f m W L word = go (not (lengthOk (m .vb))) (not (registe
     go false true c = refl
     go false false true = refl
     go false false false = last-four f m W L (decodeOf word)
+
+-- ---- the detail of a fault
+
+-- element x, by its number and address, is the first outside the window
+record Faults (W L e a : ℕ) (xs : List Element) : Type 0 where
+  element : Element
+  first : firstOutside W L xs ≡ some element
+  number : e ≡ element .number
+  address : a ≡ element .address
+
+concluded-fault : (W L k e a : ℕ) (xs : List Element) (o : Option Element) → firstOutside W L xs ≡ o → concluded o k xs ≡ Fault e a → Faults W L e a xs
+concluded-fault W L k e a xs none q p = let z : _≡_ {A = ℕ} 0 1 = cc in absurd (omega arith)
+concluded-fault W L k e a xs (some x) q p = record { element = x; first = q; number = cc; address = cc }
+
+for-fault : (f : Flags) (m : Machine) (W L e a : ℕ) (s : Store) → verdictFor f m W L (D.Known s) ≡ Fault e a → Faults W L e a (elements m s)
+unfolding settled
+for-fault f m W L e a s p =
+    go (not (flagOn f (featureOf s))) (illegal f (featureOf s)) (stack f (m .sp) (onStack s) (elements m s)) p
+  where
+    go : (b c d : Bool) → cond b Undefined (cond c Illegal (cond d Stack (concluded (firstOutside W L (elements m s)) (sizeOf (classFor s)) (elements m s)))) ≡ Fault e a
+        → Faults W L e a (elements m s)
+    go true c d q = let z : _≡_ {A = ℕ} 0 1 = cc in absurd (omega arith)
+    go false true d q = let z : _≡_ {A = ℕ} 0 1 = cc in absurd (omega arith)
+    go false false true q = let z : _≡_ {A = ℕ} 0 1 = cc in absurd (omega arith)
+    go false false false q = concluded-fault W L (sizeOf (classFor s)) e a (elements m s) (firstOutside W L (elements m s)) refl q
+
+fault-is : (f : Flags) (m : Machine) (W L word e a : ℕ) (s : Store) → verdictOf f m W L word ≡ Fault e a → decodeOf word ≡ D.Known s
+    → Faults W L e a (elements m s)
+unfolding verdictOf
+fault-is f m W L word e a s p k = go (not (lengthOk (m .vb))) (not (registersOk m)) (not (windowOk W L)) p
+  where
+    go : (b c d : Bool) → cond b Length (cond c Registers (cond d Window (verdictFor f m W L (decodeOf word)))) ≡ Fault e a → Faults W L e a (elements m s)
+    go true c d q = let z : _≡_ {A = ℕ} 0 1 = cc in absurd (omega arith)
+    go false true d q = let z : _≡_ {A = ℕ} 0 1 = cc in absurd (omega arith)
+    go false false true q = let z : _≡_ {A = ℕ} 0 1 = cc in absurd (omega arith)
+    go false false false q = for-fault f m W L e a s (ap (verdictFor f m W L) (sym k) ∙ q)
+
+pub fault-names-the-lowest : FaultNamesTheLowest
+unfolding elements elementAt
+fault-names-the-lowest f m W mem word e a mem′ s r k =
+    let t = fault-is f m W (length mem) word e a s (sym (r .answer)) k in
+    let l = first-outside (activeAt m s) (elementAt m s) W (length mem) (countOf m s) 0 (t .element) (t .first) in
+    let q : l .among .at ≡ e = sym (t .number ∙ ap (λ (x : Element). x .number) (l .among .is)) in
+    (subst (λ (y : ℕ). y < countOf m s) q (omega (arith, l .among .below)),
+      subst (λ (y : ℕ). activeAt m s y ≡ true) q (l .among .is-on),
+      t .address ∙ ap (λ (x : Element). x .address) (l .among .is) ∙ ap (λ (y : ℕ). elementAt m s y .address) q,
+      subst (λ (y : ℕ). liesIn W (length mem) m s y ≡ false) q (l .out),
+      (λ d h o. l .before d (omega arith) (subst (λ (y : ℕ). d < y) (sym q) h) o))

@@ -1,26 +1,26 @@
--- What is promised of running a store, over the predicate of `run`'s contract. Each has its proof in proofs/Statements.antt.
--- Assumes nothing.
-use Prim.Native.Nat.{ℕ, zero, suc, _+_, _*_, _≤_, _<_}
+-- What is promised of running a store, over `Ran`, the predicate of `run`'s contract, and the definitions that it cites. Each has its
+-- proof in proofs/Statements.antt. Assumes nothing.
+use Prim.Native.Nat.{ℕ, zero, suc, _+_, _*_, _^_, _≤_, _<_}
 use mathlib.Core.Bool.{Bool, true, false, not, cond}
 use mathlib.Core.List.{List, [], _∷_}
+use mathlib.Core.Logic.{_↔_}
 use mathlib.Core.Option.{Option, none, some, Option·getD}
 use mathlib.Core.Path.{_≡_}
 use lib.ListN.{length, getD}
 use Rattle.encoding.specs.Decoding.{decodeOf}
-use Rattle.encoding.specs.Encoding.{classFor, featureOf, refused}
+use Rattle.encoding.specs.Encoding.{classFor, featureOf}
 use Rattle.encoding.specs.declared.Decoded.{Decoded}
 use Rattle.encoding.specs.declared.Decoded.the-variants as D
 use Rattle.encoding.specs.declared.Store.{Store}
 use Rattle.writes.specs.Elements.{Element, lastAt}
-use Rattle.writes.specs.Window.{windowOk}
+use Rattle.writes.specs.Window.{windowOk, inWindow}
 use Rattle.elements.specs.Machine.{Machine}
 use Rattle.elements.specs.Stores.{sizeOf, countOf, registerIn, placeIn}
-use Rattle.elements.specs.Elements.{elementAt, elements}
-use Rattle.store.specs.Steps.{Sound}
+use Rattle.elements.specs.Elements.{activeAt, elementAt, elements}
 use Rattle.store.specs.Verdicts.{lengthOk, registersOk, flagOn, illegal, onStack, stack, firstOutside, verdictOf, elementsFor, number, Ran}
 use Rattle.store.specs.declared.Flags.{Flags}
 use Rattle.store.specs.declared.Verdict.{Verdict}
-use Rattle.store.specs.declared.Verdict.the-variants.{Done}
+use Rattle.store.specs.declared.Verdict.the-variants.{Done, Fault}
 
 -- ---- demand 1
 
@@ -63,10 +63,22 @@ CountsOfDone =
     → Ran f m W mem word (Done n b) mem′ → decodeOf word ≡ D.Known s
     → (n ≡ length (elements m s)) × (b ≡ length (elements m s) * sizeOf (classFor s))
 
--- each element has exactly msize/8 bytes, and its byte k is byte r·VB + its place + k of the Z buffer
+-- x is one of the list
+pub data Listed (x : Element) : List Element → Type 0 where
+  here : {xs : List Element} → Listed x (x ∷ xs)
+  there : {y : Element} {xs : List Element} → Listed x xs → Listed x (y ∷ xs)
+
+-- the list has every active element of the store, and no other
+abbrev pub ListsTheActive : Type 0
+ListsTheActive =
+    (m : Machine) (s : Store) (x : Element)
+    → Listed x (elements m s) ↔ ((e : ℕ) × (e < countOf m s) × (activeAt m s e ≡ true) × (x ≡ elementAt m s e))
+
+-- each element of a word's store has exactly msize/8 bytes, and its byte k is byte r·VB + its place + k of the Z buffer
 abbrev pub ElementBytes : Type 0
 ElementBytes =
-    (m : Machine) (s : Store) (e : ℕ) → Sound (m .vb) (m .z) (m .p) → refused s ≡ false → e < countOf m s
+    (m : Machine) (word : ℕ) (s : Store) (e : ℕ) → lengthOk (m .vb) ≡ true → registersOk m ≡ true → word < 2 ^ 32 → decodeOf word ≡ D.Known s
+    → e < countOf m s
     → (length (elementAt m s e .bytes) ≡ sizeOf (classFor s))
     × ((k : ℕ) → k < sizeOf (classFor s)
     → getD (elementAt m s e .bytes) k 0 ≡ getD (m .z) (registerIn m (classFor s) s e * m .vb + placeIn m (classFor s) s e + k) 0)
@@ -117,3 +129,19 @@ FirstConditionDecides =
     ∷ stackIs f m (decodeOf word)
     ∷ faultIs m W L (decodeOf word)
     ∷ [])
+
+-- element e of the store lies in the window
+abbrev pub liesIn : ℕ → ℕ → Machine → Store → ℕ → Bool
+liesIn W L m s e = inWindow W L (elementAt m s e .address) (length (elementAt m s e .bytes))
+
+-- "lowest such element, its first address": a fault names an active element outside the window, and each active element below it
+-- lies inside
+abbrev pub FaultNamesTheLowest : Type 0
+FaultNamesTheLowest =
+    (f : Flags) (m : Machine) (W : ℕ) (mem : List ℕ) (word e a : ℕ) (mem′ : List ℕ) (s : Store)
+    → Ran f m W mem word (Fault e a) mem′ → decodeOf word ≡ D.Known s
+    → (e < countOf m s)
+    × (activeAt m s e ≡ true)
+    × (a ≡ elementAt m s e .address)
+    × (liesIn W (length mem) m s e ≡ false)
+    × ((d : ℕ) → d < e → activeAt m s d ≡ true → liesIn W (length mem) m s d ≡ true)
