@@ -86,8 +86,8 @@ module _ (on : ℕ → Bool) (el : ℕ → Element) where
           among = further k n x (l .among);
           out = l .out;
           before = λ d h j q.
-            two k d (λ g. l .before d g j q)
-            (λ g. let w : d ≡ k = omega arith in subst (λ (y : ℕ). lies y ≡ true) (sym w) (i (subst (λ (y : ℕ). on y ≡ true) w q)));
+              two k d (λ g. l .before d g j q)
+              (λ g. let w : d ≡ k = omega arith in subst (λ (y : ℕ). lies y ≡ true) (sym w) (i (subst (λ (y : ℕ). on y ≡ true) w q)));
         }
 
     pub first-outside : (n k : ℕ) (x : Element) → firstOutside W L (actives on el n k) ≡ some x → Lowest k n x

@@ -167,8 +167,8 @@ part-bytes vb r at n z h l =
 
 element-of : (m : Machine) (s : Store) (e : ℕ) → Sound (m .vb) (m .z) (m .p) → refused s ≡ false → e < countOf m s
     → (length (elementAt m s e .bytes) ≡ sizeOf (classFor s))
-      × ((k : ℕ) → k < sizeOf (classFor s)
-        → getD (elementAt m s e .bytes) k 0 ≡ getD (m .z) (registerIn m (classFor s) s e * m .vb + placeIn m (classFor s) s e + k) 0)
+    × ((k : ℕ) → k < sizeOf (classFor s)
+    → getD (elementAt m s e .bytes) k 0 ≡ getD (m .z) (registerIn m (classFor s) s e * m .vb + placeIn m (classFor s) s e + k) 0)
 unfolding elementAt
 element-of m (Scatter f) e o a h =
     let c = classFor (Scatter f) in
@@ -215,9 +215,10 @@ element-bytes m word s e v r w d h = element-of m s e (sound m v r) (decoded-acc
 
 pub lists-the-active : ListsTheActive
 unfolding elements
-lists-the-active m s x =
-    ((λ l. let a = listed-among (activeAt m s) (elementAt m s) (countOf m s) 0 x l in (a .at, omega (arith, a .below), a .is-on, a .is)),
-      (λ a. subst (λ (y : Element). Listed y (elements m s)) (sym (a .3)) (listed-at (activeAt m s) (elementAt m s) (countOf m s) (a .0) (a .1) (a .2))))
+lists-the-active m s x = (
+  (λ l. let a = listed-among (activeAt m s) (elementAt m s) (countOf m s) 0 x l in (a .at, omega (arith, a .below), a .is-on, a .is)),
+  (λ a. subst (λ (y : Element). Listed y (elements m s)) (sym (a .3)) (listed-at (activeAt m s) (elementAt m s) (countOf m s) (a .0) (a .1) (a .2))),
+)
 
 -- ---- the order of the verdicts
 
@@ -290,9 +291,10 @@ unfolding elements elementAt
 fault-names-the-lowest f m W mem word e a mem′ s r k =
     let t = fault-is f m W (length mem) word e a s (sym (r .answer)) k in
     let l = first-outside (activeAt m s) (elementAt m s) W (length mem) (countOf m s) 0 (t .element) (t .first) in
-    let q : l .among .at ≡ e = sym (t .number ∙ ap (λ (x : Element). x .number) (l .among .is)) in
-    (subst (λ (y : ℕ). y < countOf m s) q (omega (arith, l .among .below)),
+    let q : l .among .at ≡ e = sym (t .number ∙ ap (λ (x : Element). x .number) (l .among .is)) in (
+      subst (λ (y : ℕ). y < countOf m s) q (omega (arith, l .among .below)),
       subst (λ (y : ℕ). activeAt m s y ≡ true) q (l .among .is-on),
       t .address ∙ ap (λ (x : Element). x .address) (l .among .is) ∙ ap (λ (y : ℕ). elementAt m s y .address) q,
       subst (λ (y : ℕ). liesIn W (length mem) m s y ≡ false) q (l .out),
-      (λ d h o. l .before d (omega arith) (subst (λ (y : ℕ). d < y) (sym q) h) o))
+      (λ d h o. l .before d (omega arith) (subst (λ (y : ℕ). d < y) (sym q) h) o),
+    )
