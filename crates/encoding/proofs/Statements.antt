@@ -10,6 +10,7 @@ use borrow.Author.Tests.{leb-false, not-false}
 use Rattle.encoding.specs.Classes.{Feature, SME2, flag, Class, classes, classAt, belongs, maskOf}
 use Rattle.encoding.specs.Decoding.{storeAs, storeOf, indexOf, decodeOf}
 use Rattle.encoding.specs.Encoding.{numberOf, featureOf, rowOf, rowFor, classFor, notListed, outOfRange, lacked, unnamed, misextended, refused, placed, valuesIn, encodeOf}
+use Rattle.encoding.specs.Answers.{decodedNumber, encodedNumber}
 use Rattle.encoding.specs.Statements.{DecodesItsClass, UndefinedOutside, OneClass, MaskIsMembership, RefusedForACause, EncodesDecoded, DecodesEncoded}
 use Rattle.encoding.specs.declared.Store.{Store}
 use Rattle.encoding.specs.declared.Decoded.{Decoded}
@@ -60,15 +61,20 @@ decodes-its-class k w h = (
   (λ b. sym (defined w k (sym (index-found k w h (holds b))) h (storeOf (classAt k) w) refl)),
 )
 
+is-undefined : (d : Decoded) → decodedNumber d ≡ 4 → d ≡ Undefined
+is-undefined (Known s) e = absurd (omega (arith, e))
+is-undefined Undefined e = refl
+
 pub undefined-outside : UndefinedOutside
 unfolding decodeOf
 undefined-outside w = (
-  (λ e k h.
+  (λ n k h.
+      let e = is-undefined (decodeOf w) n in
       no (belongs (classAt k) w)
       (λ t.
       let i = index-found k w h t in
       unknown (ltb (indexOf w) (length classes)) (storeOf (classAt (indexOf w)) w) e (lt→ltb (indexOf w) (length classes) (omega arith)))),
-  (λ f. sym (undefined w (length classes) (sym (index-none w (λ k h t. fails (f k h) t))) (omega arith))),
+  (λ f. ap decodedNumber (sym (undefined w (length classes) (sym (index-none w (λ k h t. fails (f k h) t))) (omega arith)))),
 )
 
 pub one-class-only : OneClass
@@ -107,13 +113,17 @@ of-one false false false false false (inr (inr (inl h))) = h
 of-one false false false false false (inr (inr (inr (inl h)))) = h
 of-one false false false false false (inr (inr (inr (inr h)))) = h
 
+is-fields : (d : Encoded) → encodedNumber d ≡ 11 → d ≡ Fields
+is-fields (Word w) e = absurd (omega (arith, e))
+is-fields Fields e = refl
+
 pub refused-for-a-cause : RefusedForACause
 unfolding encodeOf refused
 refused-for-a-cause s =
     let c = classFor s in (
-      (λ e. one-of (notListed s) (outOfRange c s) (lacked c s) (unnamed c s) (misextended c s) (fields-told (refused s) _ e)),
+      (λ e. one-of (notListed s) (outOfRange c s) (lacked c s) (unnamed c s) (misextended c s) (fields-told (refused s) _ (is-fields (encodeOf s) e))),
       (λ h.
-          ap (λ (b : Bool). cond b Fields (Word (c .base + placed (valuesIn c s))))
+          ap (λ (b : Bool). encodedNumber (cond b Fields (Word (c .base + placed (valuesIn c s)))))
           (of-one (notListed s) (outOfRange c s) (lacked c s) (unnamed c s) (misextended c s) h)),
     )
 

@@ -8,10 +8,11 @@ use lib.Bits.{bitAnd}
 use lib.ListN.{length}
 use Rattle.encoding.specs.Classes.{classes, classAt, belongs, maskOf}
 use Rattle.encoding.specs.Decoding.{storeOf, decodeOf}
+use Rattle.encoding.specs.Answers.{decodedNumber, encodedNumber}
 use Rattle.encoding.specs.Encoding.{classFor, notListed, outOfRange, lacked, unnamed, misextended, encodeOf}
 use Rattle.encoding.specs.declared.Store.{Store}
-use Rattle.encoding.specs.declared.Decoded.the-variants.{Known, Undefined}
-use Rattle.encoding.specs.declared.Encoded.the-variants.{Word, Fields}
+use Rattle.encoding.specs.declared.Decoded.the-variants.{Known}
+use Rattle.encoding.specs.declared.Encoded.the-variants.{Word}
 
 -- decoding answers a store of a class exactly when the word belongs to that class
 abbrev pub DecodesItsClass : Type 0
@@ -20,7 +21,7 @@ DecodesItsClass =
 
 -- and 4 exactly when it belongs to none
 abbrev pub UndefinedOutside : Type 0
-UndefinedOutside = (w : ℕ) → (decodeOf w ≡ Undefined) ↔ ((k : ℕ) → k < length classes → belongs (classAt k) w ≡ false)
+UndefinedOutside = (w : ℕ) → (decodedNumber (decodeOf w) ≡ 4) ↔ ((k : ℕ) → k < length classes → belongs (classAt k) w ≡ false)
 
 -- no word belongs to two classes
 abbrev pub OneClass : Type 0
@@ -37,7 +38,7 @@ MaskIsMembership =
 abbrev pub RefusedForACause : Type 0
 RefusedForACause =
     (s : Store)
-    → (encodeOf s ≡ Fields)
+    → (encodedNumber (encodeOf s) ≡ 11)
     ↔ ((notListed s ≡ true)
     ⊎ ((outOfRange (classFor s) s ≡ true)
     ⊎ ((lacked (classFor s) s ≡ true) ⊎ ((unnamed (classFor s) s ≡ true) ⊎ (misextended (classFor s) s ≡ true)))))

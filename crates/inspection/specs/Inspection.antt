@@ -1,5 +1,4 @@
--- What element e of a word's store is on a machine. Quoted are document 01 and the words that describe `starshackle_element`: "what
--- element e of the word's store is, whatever the flags". No flag is looked at, and no window judged. Assumes nothing.
+-- What element e of a word's store is on a machine. No flag is looked at, and no window judged. Assumes nothing.
 use Prim.Native.Nat.{ℕ, _+_, _*_}
 use mathlib.Core.Bool.{Bool, true, false, not, cond}
 use mathlib.Core.List.{List, [], _∷_}
@@ -17,16 +16,16 @@ use Rattle.store.specs.Verdicts.{lengthOk, registersOk}
 use Rattle.inspection.specs.declared.Inspected.{Inspected}
 use Rattle.inspection.specs.declared.Inspected.the-variants.{Length, Registers, Undefined, Past, Element}
 
--- "the place of its first byte in the Z buffer": "register r from byte r·VB", and the element's place in its register
+-- the place of its first byte in the Z buffer: "register r from byte r·VB", and the element's place in its register
 abbrev pub firstByte : Machine → Store → ℕ → ℕ
 firstByte m s e = registerIn m (classFor s) s e * m .vb + placeIn m (classFor s) s e
 
--- element e of n by what it is, or "past the last"
+-- element e of n by what it is, or past the last
 abbrev pub counted : ℕ → ℕ → Bool → ℕ → ℕ → ℕ → Inspected
 counted e n active address place size = cond (ltb e n) (Element active address place size n) (Past n)
 
--- element e of a store: whether it is active, its address, the place of its first byte, "its bytes' number" (msize/8), and "how many
--- elements the store has"
+-- element e of a store: whether it is active, its address, the place of its first byte, its bytes' number (msize/8), and how many
+-- elements the store has
 unfoldable pub inspectedAt : Machine → Store → ℕ → Inspected
 inspectedAt m s e =
     counted e (countOf m s) (activeAt m s e) (elementAt m s e .address) (firstByte m s e) (sizeOf (classFor s))
@@ -36,7 +35,7 @@ abbrev pub inspectedFor : Machine → Decoded → ℕ → Inspected
 inspectedFor m D.Undefined e = Undefined
 inspectedFor m (D.Known s) e = inspectedAt m s e
 
--- "1, 2 or 4 as `run` would refuse", in that order, else what element e is
+-- 1, 2, or 4 where the word has no class, in that order; else what element e is
 unfoldable pub inspectedOf : Machine → ℕ → ℕ → Inspected
 inspectedOf m word e =
     cond (not (lengthOk (m .vb))) Length
@@ -52,12 +51,12 @@ inspectedNumber Undefined = 4
 inspectedNumber (Past n) = 0
 inspectedNumber (Element active address place size n) = 0
 
--- "active (0 or 1)"
+-- active is 1
 abbrev pub bitOf : Bool → ℕ
 bitOf true = 1
 bitOf false = 0
 
--- a refusal comes "with zeros"; "for e past the last, all but the last entry are 0"
+-- a refusal comes with zeros; for e past the last, all but the last entry are 0
 abbrev pub inspectedAnswers : Inspected → List ℕ
 inspectedAnswers Length = replicate 5 0
 inspectedAnswers Registers = replicate 5 0

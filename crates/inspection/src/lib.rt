@@ -14,7 +14,7 @@ use elements::VectorPlan;
 use encoding::Decoded;
 use encoding::Store;
 
-// What an element is: refused as running its store would be, past the last of `count` elements, or one of them with its address, the
+// What an element is: refused with 1, 2, or 4 for a word of no class; past the last of `count` elements; or one of them with its address, the
 // place of its first byte in the Z buffer and its bytes' number.
 pub enum Inspected {
     Length,

@@ -4,8 +4,8 @@ use mathlib.Core.Bool.{Bool}
 use lib.Dec.{eqb}
 use Rattle.store.specs.declared.Flags.{Flags}
 
--- "bits 0 to 6 are document 01's flags in its order (SVE, SME2, SVE2p1, streaming, FA64, SP check, SP check with nothing active);
--- higher bits are ignored"
+-- bits 0 to 6 are document 01's flags in its order (SVE, SME2, SVE2p1, streaming, FA64, SP check, SP check with nothing active);
+-- higher bits are ignored
 abbrev pub flagsOf : ℕ → Flags
 flagsOf n =
     record {

@@ -32,7 +32,7 @@ OneOutcome =
     → ((v : Verdict) × ((mem′ : List ℕ) × Ran f m W mem word v mem′))
     × ((v v′ : Verdict) (mem′ mem″ : List ℕ) → Ran f m W mem word v mem′ → Ran f m W mem word v′ mem″ → (v ≡ v′) × (mem′ ≡ mem″))
 
--- "Every verdict but done leaves memory .. byte for byte as they came."
+-- "Every verdict but done leaves memory [..] byte for byte as [it] came."
 abbrev pub RefusalsLeaveMemory : Type 0
 RefusalsLeaveMemory =
     (f : Flags) (m : Machine) (W : ℕ) (mem : List ℕ) (word : ℕ) (v : Verdict) (mem′ : List ℕ)
