@@ -3,6 +3,3 @@ pub mod Spans
 pub mod Parts
 pub mod Concluding
 pub mod Running
-pub mod Cases
-pub mod Listed
-pub mod Statements

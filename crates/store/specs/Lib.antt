@@ -2,5 +2,3 @@
 pub mod Scanning
 pub mod Verdicts
 pub mod Steps
-pub mod Cases
-pub mod Statements

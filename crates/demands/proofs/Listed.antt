@@ -10,8 +10,8 @@ use Rattle.writes.proofs.Order.{two}
 use Rattle.writes.specs.Elements.{Element}
 use Rattle.writes.specs.Window.{inWindow}
 use Rattle.elements.specs.Elements.{actives}
 use Rattle.store.specs.Verdicts.{firstOutside}
-use Rattle.store.specs.Statements.{Listed, here, there}
+use Rattle.demands.specs.Statements.{Listed, here, there}
 
 -- the first of a list, or one of the others
 split : {X : Type 0} (x y : Element) (ys : List Element) → Listed x (y ∷ ys) → (x ≡ y → X) → (Listed x ys → X) → X

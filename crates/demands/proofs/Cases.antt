@@ -9,8 +9,8 @@ use Rattle.writes.specs.Window.{windowOk, inWindow}
 use Rattle.elements.specs.Machine.{bitAt}
 use Rattle.elements.specs.Counter.{lowestSet, countIn, maskBit}
 use Rattle.elements.specs.Elements.{activeAt, elementAt, actives, elements}
 use Rattle.store.specs.Verdicts.{lengthOk, registersOk, firstOutside, settled, verdictOf}
-use Rattle.store.specs.Cases.{cases, StarredCases}
+use Rattle.demands.specs.Cases.{cases, StarredCases}
 
 pub starred-cases : StarredCases
 unfolding classes classAt position any everyBelow inside belongs has multipleOf storeOf indexOf decodeOf rowOf leVal over written windowOk inWindow bitAt lowestSet countIn maskBit activeAt elementAt actives elements lengthOk registersOk firstOutside settled verdictOf cases

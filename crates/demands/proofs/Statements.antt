@@ -31,15 +31,15 @@ use Rattle.elements.specs.Plans.{scatterPlan, quadwordPlan, stridedPlan}
 use Rattle.elements.proofs.Planning.{register-in, register-long}
 use Rattle.elements.proofs.Shapes.{scatter-in, quadword-in, strided-in}
 use Rattle.elements.proofs.Soundness.{scatter-sound, quadword-sound, strided-sound}
 use Rattle.store.specs.Steps.{Sound}
 use Rattle.store.specs.Verdicts.{lengthOk, registersOk, flagOn, illegal, onStack, stack, firstOutside, concluded, settled, verdictFor, verdictOf, elementsFor, memoryAfter, number, Ran}
-use Rattle.store.specs.Statements.{OneOutcome, RefusalsLeaveMemory, PlaceByPlace, Listed, ListsTheActive, liesIn, FaultNamesTheLowest, Rising, InAscendingOrder, CountsOfDone, ElementBytes, undefinedIs, illegalIs, stackIs, faultIs, isOutside, onward, firstHolding, FirstConditionDecides}
+use Rattle.demands.specs.Statements.{OneOutcome, RefusalsLeaveMemory, PlaceByPlace, Listed, ListsTheActive, liesIn, FaultNamesTheLowest, Rising, InAscendingOrder, CountsOfDone, ElementBytes, undefinedIs, illegalIs, stackIs, faultIs, isOutside, onward, firstHolding, FirstConditionDecides}
 use Rattle.store.specs.declared.Flags.{Flags}
 use Rattle.store.specs.declared.Verdict.{Verdict}
 use Rattle.store.specs.declared.Verdict.the-variants.{Done, Length, Registers, Window, Undefined, Illegal, Stack, Fault}
 use Rattle.store.proofs.Concluding.{length-sound}
-use Rattle.store.proofs.Listed.{listed-among, listed-at, first-outside}
+use Rattle.demands.proofs.Listed.{listed-among, listed-at, first-outside}
 use Rattle.store.proofs.Spans.{bytes-in, place-in, register-below}
 
 -- ---- demand 1
 
