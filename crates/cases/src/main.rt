@@ -3,9 +3,9 @@
 mod large;
 mod stores;
 
+use checks::Verdict;
 use patch::Applied;
 use patch::Judged;
-use store::Verdict;
 
 fn say(text: &[u8]) {
     io::write_all(1, text);

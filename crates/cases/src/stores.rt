@@ -1,6 +1,6 @@
 // Document 01's other cases at the edges, run on a machine with VB 16: Z1 holds 01 .. 08 in its element 0.
-use store::Flags;
-use store::Verdict;
+use checks::Flags;
+use checks::Verdict;
 
 // Every extension there, streaming with FA64, no SP check.
 fn flags() -> Flags {
@@ -31,7 +31,7 @@ pub fn scatter(start: u64, offset: u8, base: u64, memory: &mut [u8]) -> Verdict 
     p[0] = 1;
     let mut x = [0u64; 31];
     x[0] = start;
-    store::run(16, flags(), &x, 0, &z, &p, base, memory, 0xe582a001)
+    running::run(16, flags(), &x, 0, &z, &p, base, memory, 0xe582a001)
 }
 
 // Class 10 from Z0 and Z8 at 1000h, under the counter in P8.
@@ -46,5 +46,5 @@ pub fn strided(low: u8, high: u8, base: u64, memory: &mut [u8]) -> Verdict {
     p[17] = high;
     let mut x = [0u64; 31];
     x[0] = 0x1000;
-    store::run(16, flags(), &x, 0, &z, &p, base, memory, 0xa1606000)
+    running::run(16, flags(), &x, 0, &z, &p, base, memory, 0xa1606000)
 }

@@ -1,3 +1,9 @@
 pub mod Listed
-pub mod Statements
-pub mod Cases
+pub mod Running
+pub mod Effects
+pub mod Making
+pub mod Applying
+pub mod Demand1
+pub mod Demand2
+pub mod Demand3
+pub mod Calls

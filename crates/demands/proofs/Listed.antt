@@ -1,8 +1,8 @@
 -- A store's list of active elements: what it has, and the first of it outside a window. Assumes nothing.
-use mathlib.Core.Path.{_≡_, refl, sym, ap, _∙_, subst}
+use mathlib.Core.Path.{_≡_, refl, sym, subst}
 use mathlib.Core.Bool.{Bool, true, false, cond}
-use mathlib.Core.List.{List, [], _∷_}
-use mathlib.Core.Option.{Option, none, some}
+use mathlib.Core.List.{List, _∷_}
+use mathlib.Core.Option.{some}
 use Prim.Native.Nat.{ℕ, zero, suc, _+_, _≤_, _<_}
 use native.Mathlib.Omega.{arith}
 use lib.ListN.{length}
@@ -10,8 +10,8 @@ use Rattle.writes.proofs.Order.{two}
 use Rattle.writes.specs.Elements.{Element}
 use Rattle.writes.specs.Window.{inWindow}
 use Rattle.elements.specs.Elements.{actives}
-use Rattle.store.specs.Verdicts.{firstOutside}
-use Rattle.demands.specs.Statements.{Listed, here, there}
+use Rattle.checks.specs.Verdicts.{firstOutside}
+use Rattle.demands.specs.Demand2.{Listed, here, there}
 
 -- the first of a list, or one of the others
 split : {X : Type 0} (x y : Element) (ys : List Element) → Listed x (y ∷ ys) → (x ≡ y → X) → (Listed x ys → X) → X

@@ -1,3 +1,6 @@
--- Demands 1 and 2 of the customer for running a store, and the starred cases of document 01.
-pub mod Statements
-pub mod Cases
+-- The customer's three demands, and two functions' promises that rest on them.
+pub mod Conditions
+pub mod Demand1
+pub mod Demand2
+pub mod Demand3
+pub mod Calls

@@ -4,3 +4,4 @@ pub mod Bits
 pub mod Planning
 pub mod Listing
 pub mod Soundness
+pub mod Stretches

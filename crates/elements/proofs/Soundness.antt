@@ -70,6 +70,7 @@ module _ (m : Machine) (low : 16 ≤ m .vb) (high : m .vb ≤ 256) (sixteen : m 
         shift = refl;
         counted = refl;
         four = lowest-below _;
+        wide = s .wide;
         some = s .small .size .0;
         size = s .small .size .1;
         whole = per-whole m c (s .eight);

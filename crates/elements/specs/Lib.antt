@@ -1,4 +1,4 @@
--- What the customer must believe of a store's elements, from document 01 (shared/papers/01-scope.md) and Arm's pages.
+-- What the customer must believe of a store's elements, from document 01 and Arm's pages.
 pub mod Machine
 pub mod Counter
 pub mod Stores

@@ -129,6 +129,7 @@ pub record StridedSound (s : StridedPlan) (vb : ℕ) : Type 0 where
   pub shift : s .shift ≡ lowestSet (s .counter)
   pub counted : s .counted ≡ countIn (s .counter)
   pub four : s .shift < 4
+  pub wide : 8 ≤ s .step
   pub some : 0 < s .size
   pub size : s .size ≤ s .step
   pub whole : s .per * s .step ≤ vb

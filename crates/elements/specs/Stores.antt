@@ -60,7 +60,8 @@ elementIn reg n e = leVal (take n (drop (e * n) reg))
 abbrev pub strideOf : Class → ℕ
 strideOf c = cond (eqb (c .nreg) 2) 8 4
 
--- "Strided: base plus X[m]·8, or base plus imm4·nreg·VB with imm4 signed": the multiple is imm4·nreg, and `ofZ w64` a number modulo 2^64
+-- "Strided: base plus X[m]·8, or base plus imm4·nreg·VB with imm4 signed": the multiple is imm4·nreg, and
+-- `ofZ w64` is a small signed number modulo 2^64
 abbrev pub startOf : Machine → Class → ℕ → ℕ → ℤ → ℕ
 startOf m c rn rm multiple = baseOf m rn + cond (has c Rm) (indexOf m rm * 2 ^ c .scale) (ofZ w64 (multiple *ℤ pos (m .vb)))
 

@@ -2,7 +2,7 @@
 use mathlib.Core.Path.{_≡_, refl, sym, ap, _∙_, subst}
 use mathlib.Core.Bool.{Bool, true, false, not, cond, _&&_, _||_}
 use mathlib.Core.List.{List, [], _∷_, map}
-use Prim.Native.Nat.{ℕ, zero, suc, _+_, _/_, _^_, _≤_, _<_}
+use Prim.Native.Nat.{ℕ, zero, suc, _+_, _*_, _/_, _^_, _≤_, _<_}
 use native.Mathlib.Nat.{not-suc-le-zero, le-of-suc-le-suc}
 use native.Mathlib.Omega.{arith}
 use lib.Bits.{bitAnd}
@@ -155,9 +155,14 @@ passes k w h e = masked k h w (subst (λ (r : List ℕ). bitAnd w (getD r 0 0) �
 pub member : (k w : ℕ) → k < length classes → w < 2 ^ 32 → T (belongs (classAt k) w) → Passes k w
 member k w h l t = subst (λ (r : List ℕ). bitAnd w (getD r 0 0) ≡ getD r 1 0) (sym (column-at row-of [] k h)) (unmasked k h w l t)
 
-abbrev pub layout-row : Class → List ℕ
-layout-row c =
-    flag (c .feature) ∷ c .nreg ∷ 2 ^ width c xs ∷ 2 ^ width c Rm ∷ 2 ^ width c imm4 ∷ 2 ^ width c (ztOf c) ∷ c .esize / 8 ∷ c .msize / 8 ∷ c .scale ∷ []
+-- a class in one number, by its hexadecimal digits
+abbrev pub digitsOf : ℕ → ℕ → ℕ → ℕ → ℕ → ℕ → ℕ → ℕ → ℕ → ℕ
+digitsOf f n x r i z t b s = s + 16 * (b + 256 * (t + 256 * (z + 16 * (i + 256 * (r + 256 * (x + 16 * (n + 16 * f)))))))
+
+abbrev pub packed : Class → ℕ
+packed c =
+    digitsOf (flag (c .feature)) (c .nreg) (2 ^ width c xs) (2 ^ width c Rm) (2 ^ width c imm4) (2 ^ width c (ztOf c)) (c .esize / 8) (c .msize / 8)
+    (c .scale)
 
 -- ---- how large a class's numbers are, and which fields all classes of a feature have
 

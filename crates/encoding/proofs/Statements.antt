@@ -129,6 +129,16 @@ refused-for-a-cause s =
 
 -- ---- the two are inverse
 
+-- a word's class is that of its store
+word-row : (w : ℕ) → indexOf w < length classes → indexOf w ≡ rowFor (storeOf (classAt (indexOf w)) w)
+unfolding storeOf
+word-row w l =
+    let k = indexOf w in
+    let c = classAt k in
+    let x = c .feature in
+    let u = storeAs x c w in
+    sym (row-found (numberOf u) (flag (featureOf u)) k l (sym (number-at k l) ∙ sym (store-number x c w)) (ap flag (sym (store-feature x c w))))
+
 pub encodes-decoded : EncodesDecoded
 unfolding storeOf
 encodes-decoded w s h e =
@@ -138,8 +148,7 @@ encodes-decoded w s h e =
     let t = decoded-index w s e in
     let l = t .0 in
     let u = storeAs x c w in
-    let r : k ≡ rowFor u =
-    sym (row-found (numberOf u) (flag (featureOf u)) k l (sym (number-at k l) ∙ sym (store-number x c w)) (ap flag (sym (store-feature x c w)))) in
+    let r : k ≡ rowFor u = word-row w l in
     let m : c .base + sumAt (placesAs x c) (reads (placesAs x c) w) ≡ w =
     joined (c .fields) (placesAs x c) (maskOf c) (c .base) (row-at k l) w h (unmasked k l w h (index-holds w l)) in
     let v : w ≡ c .base + placed (valuesIn c u) =
@@ -172,9 +181,20 @@ encoded-fits s w e =
     (a .0, a .1, t .1)
 
 -- a decoded store isn't refused
+pub known-accepted : (w : ℕ) (s : Store) → decodeOf w ≡ Known s → refused s ≡ false
+unfolding storeOf
+known-accepted w s e =
+    let k = indexOf w in
+    let c = classAt k in
+    let x = c .feature in
+    let t = decoded-index w s e in
+    let l = t .0 in
+    ap refused (sym (t .1))
+    ∙ refused-is (storeAs x c w) k (word-row w l) l
+    ∙ ap not (yes (fits c (storeAs x c w)) (store-fits c (small-at k l) w x (λ q. striding k l q)))
+
 pub decoded-accepted : (w : ℕ) (s : Store) → w < 2 ^ 32 → decodeOf w ≡ Known s → refused s ≡ false
-unfolding encodeOf
-decoded-accepted w s h e = word-told (refused s) (classFor s .base + placed (valuesIn (classFor s) s)) w (encodes-decoded w s h e) .0
+decoded-accepted w s h e = known-accepted w s e
 
 pub decodes-encoded : DecodesEncoded
 unfolding storeOf

@@ -1,4 +1,4 @@
--- What the customer must believe of words and decoded stores, from document 01 (shared/papers/01-scope.md).
+-- What the customer must believe of words and decoded stores, from document 01.
 pub mod Classes
 pub mod Decoding
 pub mod Encoding

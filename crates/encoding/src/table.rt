@@ -25,20 +25,22 @@ const ROWS: [[u32; 2]; 12] = [
     [0xFFE0E000, 0xE4202000],
 ];
 
-// The layout of each class: feature, nreg, how many values xs, Rm, imm4 and the strided Zt have, esize/8, msize/8, scale.
-const LAYOUTS: [[u32; 9]; 12] = [
-    [0, 1, 2, 1, 1, 1, 8, 8, 3],
-    [0, 1, 2, 1, 1, 1, 8, 8, 0],
-    [0, 1, 1, 1, 1, 1, 8, 8, 3],
-    [0, 1, 1, 1, 1, 1, 8, 8, 0],
-    [0, 1, 2, 1, 1, 1, 8, 1, 0],
-    [0, 1, 2, 1, 1, 1, 4, 1, 0],
-    [0, 1, 1, 1, 1, 1, 8, 1, 0],
-    [1, 2, 1, 32, 1, 8, 8, 8, 3],
-    [1, 4, 1, 32, 1, 4, 8, 8, 3],
-    [1, 2, 1, 1, 16, 8, 8, 8, 0],
-    [1, 4, 1, 1, 16, 4, 8, 8, 0],
-    [2, 1, 1, 32, 1, 1, 16, 16, 0],
+// Each class as one number, by its hexadecimal digits: the flag that it needs, nreg, how many values its fields xs, Rm (two digits),
+// imm4 (two) and the strided Zt have, esize/8 (two), msize/8 (two), scale. One number a class, since a constant table is put on the
+// stack each time that it is read.
+const LAYOUTS: [u64; 12] = [
+    0x0_1_2_01_01_1_08_08_3,
+    0x0_1_2_01_01_1_08_08_0,
+    0x0_1_1_01_01_1_08_08_3,
+    0x0_1_1_01_01_1_08_08_0,
+    0x0_1_2_01_01_1_08_01_0,
+    0x0_1_2_01_01_1_04_01_0,
+    0x0_1_1_01_01_1_08_01_0,
+    0x1_2_1_20_01_8_08_08_3,
+    0x1_4_1_20_01_4_08_08_3,
+    0x1_2_1_01_10_8_08_08_0,
+    0x1_4_1_01_10_4_08_08_0,
+    0x2_1_1_20_01_1_10_10_0,
 ];
 
 // The place in the table of the class that the word belongs to; CLASSES where it belongs to none.
@@ -71,15 +73,15 @@ pub fn layout_of(k: usize) -> Layout
     ensures bounded { λ r. ⌜ Bounded r ⌝ }
 {
     let row = LAYOUTS[k];
-    let feature = row[0];
-    let nreg = row[1];
-    let xs = row[2];
-    let rm = row[3];
-    let imm4 = row[4];
-    let zt = row[5];
-    let step = row[6];
-    let size = row[7];
-    let scale = row[8];
+    let feature = (row / 0x1_0000_0000_0000 % 16) as u32;
+    let nreg = (row / 0x1000_0000_0000 % 16) as u32;
+    let xs = (row / 0x100_0000_0000 % 16) as u32;
+    let rm = (row / 0x1_0000_0000 % 256) as u32;
+    let imm4 = (row / 0x100_0000 % 256) as u32;
+    let zt = (row / 0x10_0000 % 16) as u32;
+    let step = (row / 0x1000 % 256) as u32;
+    let size = (row / 16 % 256) as u32;
+    let scale = (row % 16) as u32;
     Layout {
         feature,
         nreg,

@@ -21,7 +21,7 @@ use Rattle.elements.specs.declared.VectorPlan.{VectorPlan}
 use Rattle.elements.specs.declared.StridedPlan.{StridedPlan}
 use Rattle.elements.proofs.Shapes.{ScatterIn, QuadwordIn}
 use Rattle.elements.proofs.Listing.{scatter-count, scatter-active, scatter-element, quadword-count, quadword-active, quadword-element, strided-active, strided-element}
-use Rattle.store.specs.Verdicts.{lengthOk, registersOk}
+use Rattle.checks.specs.Verdicts.{lengthOk, registersOk}
 use Rattle.inspection.specs.Inspection.{counted, inspectedAt, inspectedFor, inspectedOf}
 use Rattle.inspection.specs.Steps.{vectorInspected, stridedInspected}
 use Rattle.inspection.specs.declared.Inspected.the-variants.{Length, Registers, Past, Element}

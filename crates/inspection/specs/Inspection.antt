@@ -12,7 +12,7 @@ use Rattle.encoding.specs.declared.Store.{Store}
 use Rattle.elements.specs.Machine.{Machine}
 use Rattle.elements.specs.Stores.{sizeOf, countOf, registerIn, placeIn}
 use Rattle.elements.specs.Elements.{activeAt, elementAt}
-use Rattle.store.specs.Verdicts.{lengthOk, registersOk}
+use Rattle.checks.specs.Verdicts.{lengthOk, registersOk}
 use Rattle.inspection.specs.declared.Inspected.{Inspected}
 use Rattle.inspection.specs.declared.Inspected.the-variants.{Length, Registers, Undefined, Past, Element}
 

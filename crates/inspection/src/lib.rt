@@ -6,7 +6,7 @@ ghost use lib.ListN.{length};
 ghost use Rattle.encoding.specs.Encoding.{refused};
 ghost use Rattle.elements.specs.Machine.{machine};
 ghost use Rattle.elements.specs.Plans.{VectorSound, StridedSound};
-ghost use Rattle.store.specs.Steps.{Sound};
+ghost use Rattle.checks.specs.Steps.{Sound};
 ghost use Rattle.inspection.specs.Inspection.{inspectedAt, inspectedOf};
 ghost use Rattle.inspection.specs.Steps.{vectorInspected, stridedInspected};
 use elements::StridedPlan;
@@ -111,7 +111,7 @@ pub fn inspect(
 ) -> Inspected
     ensures { λ r. ⌜ r ≡ inspectedOf (machine vb (now (x .entry)) sp (now (z .entry)) (now (p .entry))) word e ⌝ }
 {
-    if !store::length_ok(vb) {
+    if !checks::length_ok(vb) {
         return Inspected::Length;
     }
     if z.len() != 32 * vb {

@@ -52,13 +52,13 @@ pub fn judge(patch: &[u8]) -> Judged
 pub fn apply(base: u64, memory: &mut [u8], patch: &[u8]) -> Applied
     ensures { λ r. ⌜ AppliedTo base (now (memory .entry)) (now (patch .entry)) r (now (memory .exit)) ⌝ }
 {
-    let len = memory.len();
+    let len = memory.len() as u64;
     if writes::window_ok(base, len) {
         let j = judge(patch);
         match j {
             Judged::NoPatch { runs: _, at: _ } => Applied::BadPatch,
             Judged::Patch { runs, bytes } => {
-                let v = lowest_outside(base, len as u64, patch, runs);
+                let v = lowest_outside(base, len, patch, runs);
                 match v {
                     Survey::Beyond { run, address } => Applied::Outside { run, address },
                     Survey::Inside => {

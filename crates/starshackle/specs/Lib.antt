@@ -1,4 +1,3 @@
 -- What the functions for C and Rust answer, over the definitions of the crates below.
-pub mod Codec
 pub mod Running
 pub mod Patches

@@ -1,8 +1,14 @@
--- Flags as bits of a number. Assumes nothing.
+-- Flags as bits of a number, and what running answers in numbers. Assumes nothing.
 use Prim.Native.Nat.{ℕ, _/_, _%_, _^_}
 use mathlib.Core.Bool.{Bool}
+use mathlib.Core.List.{List}
+use mathlib.Core.Path.{_≡_}
 use lib.Dec.{eqb}
-use Rattle.store.specs.declared.Flags.{Flags}
+use Rattle.elements.specs.Machine.{Machine}
+use Rattle.checks.specs.Verdicts.{number, numbers}
+use Rattle.checks.specs.declared.Flags.{Flags}
+use Rattle.checks.specs.declared.Verdict.{Verdict}
+use Rattle.running.specs.Running.{Ran}
 
 -- bits 0 to 6 are document 01's flags in its order (SVE, SME2, SVE2p1, streaming, FA64, SP check, SP check with nothing active);
 -- higher bits are ignored
@@ -17,3 +23,10 @@ flagsOf n =
       «sp_check» = eqb (n / 32 % 2) 1;
       «sp_idle» = eqb (n / 64 % 2) 1;
     }
+
+-- running a word's store on m and the window of mem at W answers n and ns, the numbers of its one answer, and leaves mem′
+pub record RanAs (f : Flags) (m : Machine) (W : ℕ) (mem : List ℕ) (word n : ℕ) (ns mem′ : List ℕ) : Type 0 where
+  pub answer : Verdict
+  pub outcome : Ran f m W mem word answer mem′
+  pub its-number : n ≡ number answer
+  pub its-numbers : ns ≡ numbers answer

@@ -1,30 +1,26 @@
 // The interface for C and Rust: thin functions over the proved crates. The result is the verdict's number; other numbers go into
 // an array that the caller lends.
-mod codec;
 mod inspecting;
-mod running;
+mod patches;
+mod verdicts;
 
 ghost use mathlib.Core.Path.{_≡_};
 ghost use Rattle.encoding.specs.Answers.{decodedNumber, decodedNumbers, encodedNumber};
 ghost use Rattle.encoding.specs.Decoding.{decodeOf};
-ghost use lib.ListN.{length};
 ghost use Rattle.elements.specs.Machine.{machine};
 ghost use Rattle.inspection.specs.Inspection.{inspectedOf, inspectedNumber, inspectedAnswers};
-ghost use Rattle.store.specs.Verdicts.{verdictOf, elementsFor, memoryAfter, number, numbers};
 ghost use Rattle.patch.specs.Answers.{judgedNumber, judgedNumbers};
 ghost use Rattle.patch.specs.Judging.{judged};
-ghost use Rattle.starshackle.specs.Codec.{encodeGiven, encodedAnswers};
-ghost use Rattle.starshackle.specs.Patches.{AppliedAs};
-ghost use Rattle.starshackle.specs.Running.{flagsOf};
-use codec::encode_given;
-use codec::numbers_of;
+ghost use Rattle.codec.specs.Codec.{encodeGiven, encodedAnswers};
+ghost use Rattle.starshackle.specs.Patches.{AppliedAs, MadeAs};
+ghost use Rattle.starshackle.specs.Running.{flagsOf, RanAs};
 use encoding::Decoded;
 use encoding::Encoded;
 use patch::Applied;
 use patch::Judged;
-use running::answers_of;
-use running::flags_of;
-use running::number_of;
+use verdicts::answers_of;
+use verdicts::flags_of;
+use verdicts::number_of;
 
 // What a word is: 0 and its store as eight numbers, or 4 and zeros.
 #[no_mangle]
@@ -34,7 +30,7 @@ pub extern "C" fn starshackle_decode(word: u32, fields: &mut [u64; 8]) -> u64
 {
     match encoding::decode(word) {
         Decoded::Known(store) => {
-            *fields = numbers_of(store);
+            *fields = codec::numbers_of(store);
             0
         }
         Decoded::Undefined => {
@@ -50,7 +46,7 @@ pub extern "C" fn starshackle_encode(fields: &[u64; 8], answer: &mut [u64; 5]) -
     ensures number { λ r. ⌜ r ≡ encodedNumber (encodeGiven (now (fields .entry))) ⌝ }
     ensures answers { λ _. ⌜ now (answer .exit) ≡ encodedAnswers (encodeGiven (now (fields .entry))) ⌝ }
 {
-    match encode_given(fields) {
+    match codec::encode_given(fields) {
         Encoded::Word(word) => {
             *answer = [0, 0, 0, 0, word as u64];
             0
@@ -77,13 +73,34 @@ pub extern "C" fn starshackle_run(
     word: u32,
     answer: &mut [u64; 5],
 ) -> u64
-    ensures number { λ r. ⌜ r ≡ number (verdictOf (flagsOf flags) (machine vb (now (x .entry)) sp (now (z .entry)) (now (p .entry))) base (length (now (memory .entry))) word) ⌝ }
-    ensures answers { λ _. ⌜ now (answer .exit) ≡ numbers (verdictOf (flagsOf flags) (machine vb (now (x .entry)) sp (now (z .entry)) (now (p .entry))) base (length (now (memory .entry))) word) ⌝ }
-    ensures memory { λ _. ⌜ now (memory .exit) ≡ memoryAfter (verdictOf (flagsOf flags) (machine vb (now (x .entry)) sp (now (z .entry)) (now (p .entry))) base (length (now (memory .entry))) word) base (now (memory .entry)) (elementsFor (machine vb (now (x .entry)) sp (now (z .entry)) (now (p .entry))) (decodeOf word)) ⌝ }
+    ensures { λ r. ⌜ RanAs (flagsOf flags) (machine vb (now (x .entry)) sp (now (z .entry)) (now (p .entry))) base (now (memory .entry)) word r (now (answer .exit)) (now (memory .exit)) ⌝ }
 {
-    let v = store::run(vb, flags_of(flags), x, sp, z, p, base, memory, word);
+    let v = running::run(vb, flags_of(flags), x, sp, z, p, base, memory, word);
     *answer = answers_of(v);
     number_of(v)
+}
+
+// Makes the patch of the store that a word is, for a window of `length` bytes at `base`, at the front of `patch`: 0 with active
+// elements, bytes and the patch's length in answers 2 to 4, or a refusal as in running, or 8.
+#[no_mangle]
+pub extern "C" fn starshackle_make_patch(
+    vb: usize,
+    flags: u64,
+    x: &[u64; 31],
+    sp: u64,
+    z: &[u8],
+    p: &[u8],
+    base: u64,
+    length: u64,
+    word: u32,
+    patch: &mut [u8],
+    answer: &mut [u64; 5],
+) -> u64
+    ensures { λ r. ⌜ MadeAs (flagsOf flags) (machine vb (now (x .entry)) sp (now (z .entry)) (now (p .entry))) base length (now (patch .entry)) word r (now (answer .exit)) (now (patch .exit)) ⌝ }
+{
+    let made = making::make_patch(vb, flags_of(flags), x, sp, z, p, base, length, word, patch);
+    *answer = patches::answers_of(made);
+    patches::number_of(made)
 }
 
 // What element e of the word's store is, whatever the flags: 0 and the element's five answers, or 1, 2 or 4 and zeros.

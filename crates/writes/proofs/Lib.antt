@@ -7,5 +7,8 @@ pub mod Lookup
 pub mod Net
 pub mod Overlay
 pub mod Described
+pub mod Counting
+pub mod Fillings
 pub mod Statements
 pub mod Examples
+pub mod Parts

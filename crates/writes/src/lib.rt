@@ -96,7 +96,7 @@ pub fn copy(dst: &mut [u8], src: &[u8])
 }
 
 // Whether the window is one: at most 65,536 bytes, and not past 2^64.
-pub fn window_ok(base: u64, len: usize) -> bool
+pub fn window_ok(base: u64, len: u64) -> bool
     ensures { λ r. ⌜ r ≡ windowOk base len ⌝ }
 {
     if 65536 < len {
@@ -105,7 +105,7 @@ pub fn window_ok(base: u64, len: usize) -> bool
     if len == 0 {
         return true;
     }
-    if 0xffff_ffff_ffff_ffff - base < len as u64 - 1 {
+    if 0xffff_ffff_ffff_ffff - base < len - 1 {
         return false;
     }
     true

@@ -2,8 +2,10 @@
 
 #![forbid(unsafe_code)]
 
+mod counts;
 mod decoding;
 mod encoding;
+mod making;
 mod patches;
 mod patterns;
 mod random;
@@ -11,6 +13,7 @@ mod reference;
 mod report;
 mod running;
 mod timing;
+mod workers;
 
 use decoding::Extent;
 use reference::{Outcome, Reference};
@@ -33,9 +36,15 @@ const RUN_USAGE: &str = "\
 usage: compare --run [STORES] [--threads N]
   compare running on random stores
 usage: compare --store NUMBER
-  compare running on the random store with this number
+  compare running, and making a patch, on the random store with this number
 usage: compare --bench
   measure running";
+
+const MAKE_USAGE: &str = "\
+usage: compare --make [STORES] [--threads N]
+  compare making patches on random stores
+usage: compare --bench-make
+  measure making patches";
 
 /// What every answer holds before a call, so that an entry left alone shows.
 const GARBAGE: u64 = 0xD1D2_D3D4_D5D6_D7D8;
@@ -52,6 +61,8 @@ enum Task {
     Run { stores: u64, threads: usize },
     Store { number: u64 },
     Bench,
+    Make { stores: u64, threads: usize },
+    BenchMake,
 }
 
 fn main() -> ExitCode {
@@ -62,6 +73,7 @@ fn main() -> ExitCode {
         None => {
             eprintln!("{USAGE}");
             eprintln!("{RUN_USAGE}");
+            eprintln!("{MAKE_USAGE}");
             ExitCode::from(2)
         }
     }
@@ -84,6 +96,9 @@ fn task(arguments: &[&str]) -> Option<Task> {
         ["--run", stores] => Task::Run { stores: stores.parse().ok()?, threads },
         ["--store", number] => Task::Store { number: number.parse().ok()? },
         ["--bench"] => Task::Bench,
+        ["--make"] => Task::Make { stores: making::STORES, threads },
+        ["--make", stores] => Task::Make { stores: stores.parse().ok()?, threads },
+        ["--bench-make"] => Task::BenchMake,
         _ => return None,
     })
 }
@@ -107,8 +122,13 @@ fn perform(task: Task) -> ExitCode {
         Task::Patches { strings, seed, threads } => patches::run(&report, strings, seed, threads),
         Task::BenchPatches => return listed(patches::bench::print()),
         Task::Run { stores, threads } => running::run(&report, stores, threads),
-        Task::Store { number } => running::one(&report, number),
+        Task::Store { number } => {
+            running::one(&report, number);
+            making::one(&report, number);
+        }
         Task::Bench => return listed(running::bench::print()),
+        Task::Make { stores, threads } => making::run(&report, stores, threads),
+        Task::BenchMake => return listed(making::bench::print(&starshackle::make_patch_numbers)),
     }
     let (passed, text) = match (report.differences(), report.misses()) {
         (0, 0) => (ExitCode::SUCCESS, "no difference"),
@@ -140,6 +160,9 @@ fn compare(report: &Report, extent: Extent, threads: usize) {
     }
     if !report.is_full() {
         running::run(report, running::STORES, threads);
+    }
+    if !report.is_full() {
+        making::run(report, making::STORES, threads);
     }
 }
 

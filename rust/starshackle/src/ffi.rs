@@ -112,3 +112,47 @@ pub fn element_numbers(machine: &Machine, word: u32, number: u64, answer: &mut A
     // SAFETY: as above, with no memory.
     unsafe { starshackle_element(vb, x, sp, z, z_len, p, p_len, word, number, answer) }
 }
+
+extern "C" {
+    fn starshackle_make_patch(
+        vb: usize,
+        flags: u64,
+        x: *const [u64; 31],
+        sp: u64,
+        z: *const u8,
+        z_len: usize,
+        p: *const u8,
+        p_len: usize,
+        base: u64,
+        length: u64,
+        word: u32,
+        patch: *mut u8,
+        patch_len: usize,
+        answer: *mut Answer,
+    ) -> u64;
+}
+
+/// Makes the patch of a word's store over a window of `length` bytes from `base` on, which need not
+/// be there, writes all of `answer` and returns the verdict's number. The entries: the element of
+/// the detail, its address, active elements, bytes moved, the patch's length. Where it is done, the
+/// patch stands in the first bytes of `patch`; other bytes stay as they were.
+pub fn make_patch_numbers(
+    machine: &Machine,
+    base: u64,
+    length: u64,
+    word: u32,
+    patch: &mut [u8],
+    answer: &mut Answer,
+) -> u64 {
+    let Machine { vb, flags, ref x, sp, z, p } = *machine;
+    let (z_len, p_len, patch_len) = (z.len(), p.len(), patch.len());
+    let (z, p, patch) = (z.as_ptr(), p.as_ptr(), patch.as_mut_ptr());
+    // SAFETY: each buffer comes with its length, and the library stays within it, so that the
+    // pointer of an empty one is never followed. It writes to the patch and the five entries alone,
+    // which nothing else refers to, and keeps no pointer. The window is two numbers.
+    unsafe {
+        starshackle_make_patch(
+            vb, flags.0, x, sp, z, z_len, p, p_len, base, length, word, patch, patch_len, answer,
+        )
+    }
+}

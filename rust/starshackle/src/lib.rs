@@ -8,11 +8,12 @@
 pub mod assembly;
 #[allow(unsafe_code)]
 mod ffi;
+pub mod make;
 pub mod patch;
 pub mod run;
 
 pub use ffi::{apply_numbers, decode_fields, encode_fields, judge_numbers};
-pub use ffi::{element_numbers, run_numbers};
+pub use ffi::{element_numbers, make_patch_numbers, run_numbers};
 
 /// A decoded store as numbers: class, index, extension, predicate, base, register, multiple, 0.
 pub type Fields = [u64; 8];

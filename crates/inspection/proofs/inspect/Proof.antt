@@ -6,7 +6,7 @@ use borrow.Author.Tests.{not-false}
 use Rattle.encoding.proofs.Statements.{decoded-accepted}
 use Rattle.encoding.specs.declared.Decoded.the-variants.{Known, Undefined}
 use Rattle.elements.specs.Machine.{Machine, machine}
-use Rattle.store.proofs.Concluding.{Vb, length-sound}
+use Rattle.checks.proofs.Concluding.{Vb, length-sound}
 use Rattle.inspection.proofs.Inspecting.{inspected-length, inspected-z, inspected-p, inspected-decoded}
 use borrow.Author.Needs.{needs}
 use Rattle.inspection.proofs.inspect.Statement.{statement}

@@ -2,7 +2,7 @@
 use mathlib.Core.Path.{refl}
 use Prim.Native.Nat.{_+_, _*_, _/_, _%_, _≤_, _<_}
 use native.Mathlib.Omega.{arith}
-use Rattle.store.proofs.Spans.{strided-below, place-in, register-below, register-fits, strided-few}
+use Rattle.checks.proofs.Spans.{strided-below, place-in, register-below, register-fits, strided-few}
 use Rattle.inspection.proofs.Inspecting.{strided-past, strided-found}
 use Rattle.inspection.proofs.inspect_strided.Statement.{statement}
 use Rattle.inspection.proofs.inspect_strided.Tie as tie

@@ -1,7 +1,7 @@
 -- By what encoding answers. Assumes nothing.
 use mathlib.Core.Path.{_≡_, sym, ap, _∙_}
 use Rattle.encoding.specs.Answers.{encodedNumber}
-use Rattle.starshackle.specs.Codec.{encodedAnswers}
+use Rattle.codec.specs.Codec.{encodedAnswers}
 use borrow.Author.Needs.{needs}
 use Rattle.starshackle.proofs.starshackle_encode.Statement.{statement}
 use Rattle.starshackle.proofs.starshackle_encode.Tie as tie

@@ -1,11 +1,9 @@
 -- What running answers, as numbers. Assumes nothing.
-use mathlib.Core.Path.{_≡_, ap, _∙_}
+use mathlib.Core.Path.{ap, _∙_}
 use lib.ListN.{length}
-use Rattle.encoding.specs.Decoding.{decodeOf}
 use Rattle.elements.specs.Machine.{machine}
-use Rattle.store.specs.Verdicts.{verdictOf, elementsFor, memoryAfter, number, numbers}
-use Rattle.store.specs.declared.Flags.{Flags}
-use Rattle.store.specs.declared.Verdict.{Verdict}
+use Rattle.checks.specs.Verdicts.{verdictOf}
+use Rattle.checks.specs.declared.Flags.{Flags}
 use borrow.Author.Needs.{needs}
 use Rattle.starshackle.proofs.starshackle_run.Statement.{statement}
 use Rattle.starshackle.proofs.starshackle_run.Tie as tie
@@ -30,10 +28,13 @@ returns c =
     let a = c .before .before .before .before .before .before .before .before .before .before .args in
     let m = machine (a .vb) (a .x .now) (a .sp) (a .z .now) (a .p .now) in
     let r = c .before .before .before .before .run in
-    let q = r .ensures .answer ∙ ap (λ (f : Flags). verdictOf f m (a .base) (length (a .memory .now)) (a .word)) (c .before .before .before .before .before .before .flags-of .ensures) in (
-      c .number-of .ensures ∙ ap number q,
-      (c .before .answers-of .ensures ∙ ap numbers q, r .ensures .memory ∙ ap (λ (v : Verdict). memoryAfter v (a .base) (a .memory .now) (elementsFor m (decodeOf (a .word)))) q),
-    )
+    let q = c .before .before .before .before .before .before .flags-of .ensures in
+    record {
+      answer = r .result;
+      outcome = record { answer = r .ensures .answer ∙ ap (λ (f : Flags). verdictOf f m (a .base) (length (a .memory .now)) (a .word)) q; memory = r .ensures .memory };
+      its-number = c .number-of .ensures;
+      its-numbers = c .before .answers-of .ensures;
+    }
 
 pub starshackle-run-spec : {M : Type 1} → statement M
 starshackle-run-spec =

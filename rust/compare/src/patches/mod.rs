@@ -4,15 +4,15 @@ pub mod bench;
 mod damage;
 mod generate;
 mod kinds;
-mod reader;
+pub mod reader;
 mod tally;
 mod windows;
 
 use crate::random::Random;
 use crate::reference::Outcome;
 use crate::report::{answers, Report};
+use crate::workers::spread;
 use crate::GARBAGE;
-use std::thread;
 use tally::{Seen, Tally};
 use windows::Window;
 
@@ -34,14 +34,7 @@ pub fn run(report: &Report, strings: u64, seed: u64, threads: usize) {
         comparison.tally
     };
     let mut total = Tally::new();
-    thread::scope(|scope| {
-        let work = &work;
-        let workers: Vec<_> =
-            (0..threads as u64).map(|first| scope.spawn(move || work(first))).collect();
-        for worker in workers {
-            total.add(&worker.join().expect("a worker ends"));
-        }
-    });
+    spread(threads, work).iter().for_each(|tally| total.add(tally));
     total.print(report);
 }
 
@@ -146,7 +139,7 @@ fn model_judge(string: &[u8]) -> Outcome<5> {
 }
 
 /// The model's applying, its answer filled with garbage beforehand.
-fn model_apply(base: u64, memory: &mut [u8], string: &[u8]) -> Outcome<5> {
+pub fn model_apply(base: u64, memory: &mut [u8], string: &[u8]) -> Outcome<5> {
     let mut numbers = [GARBAGE; 5];
     let verdict = starshackle::apply_numbers(base, memory, string, &mut numbers);
     Outcome { verdict, numbers }

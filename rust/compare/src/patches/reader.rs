@@ -19,10 +19,10 @@ pub const LONGEST: usize = 65_536;
 pub const TOP: u128 = 1 << 64;
 
 /// A set of byte writes.
-type Writes = BTreeMap<u64, u8>;
+pub type Writes = BTreeMap<u64, u8>;
 
 /// The runs of a set, each its start and its bytes.
-type Runs = Vec<(u64, Vec<u8>)>;
+pub type Runs = Vec<(u64, Vec<u8>)>;
 
 /// What has the form of a run, whatever its numbers say.
 struct Piece<'a> {
@@ -74,7 +74,7 @@ fn writes<'a>(pieces: &[Piece<'a>]) -> Option<Writes> {
 }
 
 /// One starts at each address whose predecessor isn't in the set.
-fn runs(writes: &Writes) -> Runs {
+pub fn runs(writes: &Writes) -> Runs {
     let mut runs = Runs::new();
     let mut last = None;
     for (&address, &byte) in writes {
@@ -100,7 +100,7 @@ fn body(writes: &Writes, runs: &Runs) -> Option<Vec<u8>> {
 }
 
 /// The encoding of a set that is within the sizes.
-fn encoding(writes: &Writes, runs: &Runs) -> Option<Vec<u8>> {
+pub fn encoding(writes: &Writes, runs: &Runs) -> Option<Vec<u8>> {
     let count = (runs.len() as u16).to_le_bytes();
     body(writes, runs).map(|body| [&body[..], &TRAILER_MARK, &count].concat())
 }

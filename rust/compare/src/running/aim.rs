@@ -13,25 +13,37 @@ pub struct Window {
 /// Sets the registers that the word names; what they don't decide stays as it is.
 pub fn aim(random: &mut Random, class: &Class, window: &Window, input: &mut Input) {
     match class.form {
-        Form::Scatter { offset, scale } => {
-            let targets = targets(random, class, window, input);
-            scatter(random, class, (offset, scale), &targets, input);
-        }
         Form::Strided { registers, immediate } => {
             let start = counter(random, class, window, input);
             strided(random, start, registers, immediate, input);
         }
-        Form::Quadword => {
+        _ => {
             let targets = targets(random, class, window, input);
-            quadword(&targets, input);
+            place(random, class, &targets, input);
         }
     }
 }
 
-/// Gives the predicate register bits that are more or less dense, and tells which elements are
+/// Sets the registers by which the elements of a store that isn't strided lie at the targets.
+pub fn place(random: &mut Random, class: &Class, targets: &[u64], input: &mut Input) {
+    match class.form {
+        Form::Scatter { offset, scale } => {
+            scatter(random, class, (offset, scale), targets, input);
+        }
+        Form::Quadword => quadword(targets, input),
+        Form::Strided { .. } => unreachable!("a strided store has no targets"),
+    }
+}
+
+/// Gives the predicate register bits of which so many in eight are set, and tells which elements are
 /// active by it.
-fn predicate(random: &mut Random, class: &Class, input: &mut Input) -> Vec<bool> {
-    let (step, density) = (class.esize / 8, random.pick(&[0, 1, 4, 7, 7, 8]));
+pub fn predicate(
+    random: &mut Random,
+    class: &Class,
+    density: usize,
+    input: &mut Input,
+) -> Vec<bool> {
+    let step = class.esize / 8;
     let from = PREDICATE.of(input.word) * input.vb / 8;
     let firsts: Vec<bool> = (0..input.vb / step).map(|_| random.below(8) < density).collect();
     for (e, &first) in firsts.iter().enumerate() {
@@ -44,7 +56,8 @@ fn predicate(random: &mut Random, class: &Class, input: &mut Input) -> Vec<bool>
 /// Sets the predicate and tells where the elements are wanted. Active ones are in the window, often
 /// close together; in half of the stores only up to a stray element, which is often a late one.
 fn targets(random: &mut Random, class: &Class, window: &Window, input: &mut Input) -> Vec<u64> {
-    let active = predicate(random, class, input);
+    let density = random.pick(&[0, 1, 4, 7, 7, 8]);
+    let active = predicate(random, class, density, input);
     let (count, size) = (active.len(), class.msize / 8);
     let room = (window.length + 1).saturating_sub(size);
     let spread = if random.one_in(2) { room } else { room.min(4 * size) };

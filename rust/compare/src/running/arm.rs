@@ -45,19 +45,19 @@ pub struct Element {
 
 impl Element {
     /// The addresses of its bytes; past 2^64 there are none in any window.
-    fn addresses(&self) -> impl Iterator<Item = u128> {
+    pub fn addresses(&self) -> impl Iterator<Item = u128> {
         let first = u128::from(self.address);
         (0..self.size).map(move |k| first + k as u128)
     }
 
-    fn byte(&self, k: usize) -> u8 {
+    pub fn byte(&self, k: usize) -> u8 {
         (self.value >> (8 * k) & 0xFF) as u8
     }
 }
 
 /// What running the store answers; `memory` is the window's, before and after.
 pub fn run(input: &Input, memory: &mut [u8]) -> Outcome<5> {
-    match judged(input, memory.len()) {
+    match judged(input, memory.len() as u64) {
         Err(outcome) => outcome,
         Ok(elements) => write(input.base, &elements, memory),
     }
@@ -94,15 +94,15 @@ fn registers_lent(input: &Input) -> Result<(), u64> {
     }
 }
 
-/// The elements of a store that none of the refusals is due for.
-fn judged(input: &Input, length: usize) -> Result<Vec<Element>, Outcome<5>> {
+/// The elements of a store that none of the refusals is due for, the window having this length.
+pub fn judged(input: &Input, length: u64) -> Result<Vec<Element>, Outcome<5>> {
     let refusal = |verdict| Outcome { verdict, numbers: [0; 5] };
     let class = allowed(input, length).map_err(refusal)?;
     let elements = elements_of(input, class);
     if stack_is_refused(input, class, elements.iter().any(|element| element.active)) {
         return Err(refusal(STACK));
     }
-    let window = u128::from(input.base)..u128::from(input.base) + length as u128;
+    let window = u128::from(input.base)..u128::from(input.base) + u128::from(length);
     let outside = |element: &Element| element.addresses().any(|byte| !window.contains(&byte));
     match elements.iter().position(|element| element.active && outside(element)) {
         None => Ok(elements),
@@ -114,9 +114,9 @@ fn judged(input: &Input, length: usize) -> Result<Vec<Element>, Outcome<5>> {
 }
 
 /// The class of a store whose elements may be looked at.
-fn allowed(input: &Input, length: usize) -> Result<&'static Class, u64> {
+fn allowed(input: &Input, length: u64) -> Result<&'static Class, u64> {
     registers_lent(input)?;
-    if length > LONGEST || u128::from(input.base) + length as u128 > 1 << 64 {
+    if length > LONGEST as u64 || u128::from(input.base) + u128::from(length) > 1 << 64 {
         return Err(WINDOW);
     }
     let class = &CLASSES[class_of(input.word).ok_or(UNDEFINED)?];

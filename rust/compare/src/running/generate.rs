@@ -85,6 +85,11 @@ fn window(random: &mut Random, span: usize) -> Window {
         25..=50 => span + random.below(64),
         _ => random.below(4096),
     };
+    Window { base: base(random, length), length }
+}
+
+/// Where a window of this length lies: often at an end of the address space.
+pub fn base(random: &mut Random, length: usize) -> u64 {
     let highest = u64::MAX - (length as u64).saturating_sub(1);
     let near = random.below(64) as u64;
     let base = match random.below(8) {
@@ -96,7 +101,7 @@ fn window(random: &mut Random, span: usize) -> Window {
         6 => 0x1000 + near,
         _ => random.next(),
     };
-    Window { base: base.min(highest), length }
+    base.min(highest)
 }
 
 /// A window that is refused.

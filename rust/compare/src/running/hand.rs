@@ -4,26 +4,19 @@ use super::arm::{DONE, FAULT, ILLEGAL, LENGTH, LONGEST, REGISTERS, STACK, UNDEFI
 use starshackle::run::{Flags, Machine};
 use starshackle::Answer;
 
-const SCATTER: (u32, u32) = (0xFFE0_E000, 0xE580_A000);
-const STRIDED: (u32, u32) = (0xFFE0_E00C, 0xA120_E000);
+pub const SCATTER: (u32, u32) = (0xFFE0_E000, 0xE580_A000);
+pub const STRIDED: (u32, u32) = (0xFFE0_E00C, 0xA120_E000);
 /// Bytes of an element.
-const SIZE: usize = 8;
+pub const SIZE: usize = 8;
 
 /// As the model's run; words of other classes are undefined.
 #[inline(never)]
 pub fn run(machine: &Machine, base: u64, memory: &mut [u8], word: u32, answer: &mut Answer) -> u64 {
     *answer = [0; 5];
-    if !matches!(machine.vb, 16 | 32 | 64 | 128 | 256) {
-        return LENGTH;
-    }
-    if machine.z.len() != 32 * machine.vb || machine.p.len() != 2 * machine.vb {
-        return REGISTERS;
-    }
-    let length = memory.len();
-    if length > LONGEST || length > 0 && base > u64::MAX - (length as u64 - 1) {
-        return WINDOW;
-    }
-    if word & SCATTER.0 == SCATTER.1 {
+    let verdict = lent(machine, base, memory.len() as u64);
+    if verdict != DONE {
+        verdict
+    } else if word & SCATTER.0 == SCATTER.1 {
         scatter(machine, base, memory, word, answer)
     } else if word & STRIDED.0 == STRIDED.1 {
         strided(machine, base, memory, word, answer)
@@ -32,16 +25,31 @@ pub fn run(machine: &Machine, base: u64, memory: &mut [u8], word: u32, answer: &
     }
 }
 
-fn has(machine: &Machine, flag: Flags) -> bool {
+/// The verdict on the vector length, the registers and the window.
+#[inline]
+pub fn lent(machine: &Machine, base: u64, length: u64) -> u64 {
+    if !matches!(machine.vb, 16 | 32 | 64 | 128 | 256) {
+        return LENGTH;
+    }
+    if machine.z.len() != 32 * machine.vb || machine.p.len() != 2 * machine.vb {
+        return REGISTERS;
+    }
+    if length > LONGEST as u64 || length > 0 && base > u64::MAX - (length - 1) {
+        return WINDOW;
+    }
+    DONE
+}
+
+pub fn has(machine: &Machine, flag: Flags) -> bool {
     machine.flags.0 & flag.0 != 0
 }
 
-fn field(word: u32, low: u32, mask: u32) -> usize {
+pub fn field(word: u32, low: u32, mask: u32) -> usize {
     (word >> low & mask) as usize
 }
 
 /// The base register; the stack's verdict where it is due.
-fn base_of(machine: &Machine, word: u32, any_active: impl Fn() -> bool) -> Option<u64> {
+pub fn base_of(machine: &Machine, word: u32, any_active: impl Fn() -> bool) -> Option<u64> {
     match field(word, 5, 31) {
         31 => {
             let bad = machine.sp % 16 != 0 && has(machine, Flags::SP_CHECK);
@@ -52,11 +60,11 @@ fn base_of(machine: &Machine, word: u32, any_active: impl Fn() -> bool) -> Optio
     }
 }
 
-fn number(bytes: &[u8]) -> u64 {
+pub fn number(bytes: &[u8]) -> u64 {
     u64::from_le_bytes(bytes.try_into().expect("an element has eight bytes"))
 }
 
-fn fault(answer: &mut Answer, element: usize, address: u64) -> u64 {
+pub fn fault(answer: &mut Answer, element: usize, address: u64) -> u64 {
     (answer[0], answer[1]) = (element as u64, address);
     FAULT
 }
@@ -102,7 +110,7 @@ fn scatter(machine: &Machine, base: u64, memory: &mut [u8], word: u32, answer: &
 }
 
 /// The first active element and the one behind the last.
-fn stretch(counter: u16, elements: usize) -> (usize, usize) {
+fn active(counter: u16, elements: usize) -> (usize, usize) {
     if counter & 15 == 0 {
         return (0, 0);
     }
@@ -117,38 +125,75 @@ fn stretch(counter: u16, elements: usize) -> (usize, usize) {
     }
 }
 
-fn strided(machine: &Machine, base: u64, memory: &mut [u8], word: u32, answer: &mut Answer) -> u64 {
+/// A strided store's active elements, from the first to the one behind the last, and where element
+/// 0 lies, counted from the window's start.
+pub struct Stretch {
+    pub low: usize,
+    pub high: usize,
+    pub start: u64,
+}
+
+/// The stretch of a store over a window of this length, or its verdict.
+#[inline]
+pub fn stretch(
+    machine: &Machine,
+    base: u64,
+    length: usize,
+    word: u32,
+    answer: &mut Answer,
+) -> Result<Stretch, u64> {
     if !has(machine, Flags::SME2) {
-        return UNDEFINED;
+        return Err(UNDEFINED);
     }
     if !has(machine, Flags::STREAMING) {
-        return ILLEGAL;
+        return Err(ILLEGAL);
     }
     let vb = machine.vb;
     let from = (8 + field(word, 10, 7)) * (vb / 8);
     let counter = u16::from_le_bytes([machine.p[from], machine.p[from + 1]]);
-    let (low, high) = stretch(counter, 4 * vb / SIZE);
+    let (low, high) = active(counter, 4 * vb / SIZE);
     let index = machine.x.get(field(word, 16, 31)).map_or(0, |index| index << 3);
     let start = match base_of(machine, word, || low < high) {
-        None => return STACK,
+        None => return Err(STACK),
         Some(start) => start.wrapping_add(index).wrapping_sub(base),
     };
     let at = |e: usize| start.wrapping_add((e * SIZE) as u64);
     let bytes = (high - low) * SIZE;
-    if bytes > 0 && at(low) >= (memory.len() + 1).saturating_sub(bytes) as u64 {
-        let room = (memory.len() + 1).saturating_sub(SIZE) as u64;
+    if bytes > 0 && at(low) >= (length + 1).saturating_sub(bytes) as u64 {
+        let room = (length + 1).saturating_sub(SIZE) as u64;
         let first = (low..high).find(|&e| at(e) >= room).expect("not all fit");
-        return fault(answer, first, base.wrapping_add(at(first)));
+        return Err(fault(answer, first, base.wrapping_add(at(first))));
     }
-    let first = field(word, 4, 1) * 16 + field(word, 0, 3);
-    for r in 0..4 {
-        let (from, to) = ((low * SIZE).max(r * vb), (high * SIZE).min((r + 1) * vb));
-        if from < to {
-            let source = &machine.z[(first + 4 * r) * vb + from - r * vb..][..to - from];
-            memory[start.wrapping_add(from as u64) as usize..][..to - from].copy_from_slice(source);
-        }
+    Ok(Stretch { low, high, start })
+}
+
+impl Stretch {
+    /// The bytes of each register, with the place of the first, counted from element 0.
+    #[inline]
+    pub fn parts<'a>(
+        &self,
+        machine: &Machine<'a>,
+        word: u32,
+    ) -> impl Iterator<Item = (usize, &'a [u8])> {
+        let (vb, z, low, high) = (machine.vb, machine.z, self.low * SIZE, self.high * SIZE);
+        let first = field(word, 4, 1) * 16 + field(word, 0, 3);
+        (0..4).filter_map(move |r| {
+            let (from, to) = (low.max(r * vb), high.min((r + 1) * vb));
+            (from < to).then(|| (from, &z[(first + 4 * r) * vb + from - r * vb..][..to - from]))
+        })
     }
-    done(answer, high - low)
+}
+
+fn strided(machine: &Machine, base: u64, memory: &mut [u8], word: u32, answer: &mut Answer) -> u64 {
+    let stretch = match stretch(machine, base, memory.len(), word, answer) {
+        Err(verdict) => return verdict,
+        Ok(stretch) => stretch,
+    };
+    for (from, source) in stretch.parts(machine, word) {
+        let at = stretch.start.wrapping_add(from as u64) as usize;
+        memory[at..][..source.len()].copy_from_slice(source);
+    }
+    done(answer, stretch.high - stretch.low)
 }
 
 #[cfg(test)]

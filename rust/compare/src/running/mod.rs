@@ -1,26 +1,26 @@
 //! Running stores compared with an independent model, on random inputs.
 
-mod aim;
-mod arm;
+pub mod aim;
+pub mod arm;
 pub mod bench;
 mod bits;
 #[cfg(test)]
 mod cases;
-mod classes;
-mod generate;
-mod hand;
-mod input;
+pub mod classes;
+pub mod generate;
+pub mod hand;
+pub mod input;
 mod spoil;
 mod tally;
 
 use crate::random::Random;
 use crate::reference::Outcome;
 use crate::report::{answers, Report};
+use crate::workers::spread;
 use crate::GARBAGE;
 use arm::Element;
 use input::Input;
 use starshackle::run::{Machine, Window};
-use std::thread;
 use tally::{Seen, Tally};
 
 /// Stores that are compared where no number is given.
@@ -36,13 +36,7 @@ pub fn run(report: &Report, stores: u64, threads: usize) {
         comparison.tally
     };
     let mut total = Tally::new();
-    thread::scope(|scope| {
-        let workers: Vec<_> =
-            (0..threads as u64).map(|first| scope.spawn(move || work(first))).collect();
-        for worker in workers {
-            total.add(&worker.join().expect("a worker ends"));
-        }
-    });
+    spread(threads, work).iter().for_each(|tally| total.add(tally));
     total.print(report);
 }
 
@@ -139,7 +133,7 @@ fn ran(input: &Input, run: impl FnOnce(&mut [u8]) -> Outcome<5>) -> Ran {
 }
 
 /// Where bytes differ first, counted from the one behind `margin`; empty where they don't.
-fn first_difference(name: &str, model: &[u8], right: &[u8], margin: usize) -> String {
+pub fn first_difference(name: &str, model: &[u8], right: &[u8], margin: usize) -> String {
     match model.iter().zip(right).position(|(model, right)| model != right) {
         None => String::new(),
         Some(place) => {
@@ -150,7 +144,7 @@ fn first_difference(name: &str, model: &[u8], right: &[u8], margin: usize) -> St
 }
 
 /// The model's run, its answer filled with garbage beforehand.
-fn model_run(machine: &Machine, base: u64, memory: &mut [u8], word: u32) -> Outcome<5> {
+pub fn model_run(machine: &Machine, base: u64, memory: &mut [u8], word: u32) -> Outcome<5> {
     let mut numbers = [GARBAGE; 5];
     let window = Window { base, memory };
     let verdict = starshackle::run_numbers(machine, window, word, &mut numbers);

@@ -3,6 +3,7 @@
 use super::arm::{self, Element, DONE, FAULT, ILLEGAL, LONGEST, SP_CHECK, STACK, STREAMING};
 use super::classes::{class_of, Form, BASE, CLASSES, PREDICATE, R31};
 use super::input::Input;
+use crate::counts::Counts;
 use crate::reference::Outcome;
 use crate::report::Report;
 
@@ -145,49 +146,32 @@ fn overlap(elements: &[Element]) -> bool {
     starts.windows(2).any(|pair| pair[1].0 - pair[0].0 < pair[0].1 as u64)
 }
 
-/// The counts, group by group and number by number.
 pub struct Tally {
     stores: u64,
-    counts: Vec<Vec<u64>>,
+    counts: Counts,
 }
 
 impl Tally {
     pub fn new() -> Tally {
-        let counts = GROUPS.iter().map(|group| vec![0; group.numbers.len()]).collect();
+        let counts = Counts::new(GROUPS.iter().map(|group| (group.name, group.numbers)));
         Tally { stores: 0, counts }
     }
 
     pub fn count(&mut self, seen: &Seen) {
         self.stores += 1;
-        for (group, counts) in GROUPS.iter().zip(&mut self.counts) {
-            let number = (group.of)(seen);
-            let place = group.numbers.iter().position(|&one| Some(one) == number);
-            if let Some(place) = place {
-                counts[place] += 1;
-            }
+        for (row, group) in GROUPS.iter().enumerate() {
+            self.counts.hit(row, (group.of)(seen));
         }
     }
 
     pub fn add(&mut self, other: &Tally) {
         self.stores += other.stores;
-        for (counts, more) in self.counts.iter_mut().zip(&other.counts) {
-            for (count, more) in counts.iter_mut().zip(more) {
-                *count += more;
-            }
-        }
+        self.counts.add(&other.counts);
     }
 
     /// Prints the counts, and reports what was not hit.
     pub fn print(&self, report: &Report) {
         println!("run: {} stores compared", self.stores);
-        for (group, counts) in GROUPS.iter().zip(&self.counts) {
-            let pairs = || group.numbers.iter().zip(counts);
-            let listed: Vec<String> =
-                pairs().map(|(one, count)| format!("{one}: {count}")).collect();
-            println!("  {:46} {}", group.name, listed.join(", "));
-            for (one, _) in pairs().filter(|(_, &count)| count == 0) {
-                report.miss(&format!("{}: {one}", group.name));
-            }
-        }
+        self.counts.print(report);
     }
 }

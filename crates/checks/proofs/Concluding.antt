@@ -1,0 +1,127 @@
+-- What a scan says of the first element outside the window, and the verdict that follows. Assumes nothing.
+use mathlib.Core.Path.{_≡_, refl, sym, ap, ap₂, _∙_}
+use mathlib.Core.Bool.{Bool, true, false, not, cond}
+use mathlib.Core.List.{List, [], _∷_}
+use mathlib.Core.Logic.{⊎-elim}
+use mathlib.Core.Option.{Option, none, some}
+use Prim.Native.Nat.{ℕ, suc, _+_, _*_, _%_, _≤_}
+use native.Mathlib.Omega.{arith}
+use lib.Dec.{eqb}
+use lib.ListN.{length}
+use borrow.Author.Tests.{eq-eqb, ne-eqb, eqb-true}
+use Rattle.encoding.specs.Classes.{Feature, SVE, SME2, SVE2p1, flag}
+use Rattle.encoding.proofs.Rows.{flag-inj}
+use Rattle.encoding.proofs.Statements.{one-of}
+use Rattle.writes.specs.Elements.{Element}
+use Rattle.writes.specs.Window.{inWindow}
+use Rattle.checks.specs.Scanning.{scanFrom}
+use Rattle.checks.specs.Verdicts.{lengthOk, flagOn, illegal, isSome, stack, firstOutside, concluded, settled}
+use Rattle.checks.specs.declared.Flags.{Flags}
+use Rattle.checks.specs.declared.Scan.the-variants.{Clear, Out}
+use Rattle.checks.specs.declared.Verdict.the-variants.{Done, Stack, Fault}
+
+-- ---- scans
+
+pub record Cleared (W L k n : ℕ) (xs : List Element) : Type 0 where
+  pub none-out : firstOutside W L xs ≡ none
+  pub total : n ≡ k + length xs
+
+pub scan-clear : (W L k n : ℕ) (xs : List Element) → Clear n ≡ scanFrom W L k xs → Cleared W L k n xs
+unfolding scanFrom firstOutside
+scan-clear W L k n [] e = let q : n ≡ k = cc in record { none-out = refl; total = omega arith }
+scan-clear W L k n (x ∷ xs) e = go (inWindow W L (x .address) (length (x .bytes))) refl e (λ q. scan-clear W L (suc k) n xs q)
+  where
+    go : (b : Bool) → inWindow W L (x .address) (length (x .bytes)) ≡ b → Clear n ≡ cond b (scanFrom W L (suc k) xs) (Out (x .number) (x .address))
+        → (Clear n ≡ scanFrom W L (suc k) xs → Cleared W L (suc k) n xs) → Cleared W L k n (x ∷ xs)
+    go true i q rest =
+        let r = rest q in
+        record { none-out = ap (λ (b : Bool). cond b (firstOutside W L xs) (some x)) i ∙ r .none-out; total = omega (arith, r .total) }
+    go false i q rest = let z : _≡_ {A = ℕ} 0 1 = cc in absurd (omega arith)
+
+pub record Left (W L e a : ℕ) (xs : List Element) : Type 0 where
+  pub x : Element
+  pub out : firstOutside W L xs ≡ some x
+  pub number : e ≡ x .number
+  pub address : a ≡ x .address
+  pub there : true ≡ isSome xs
+
+pub scan-out : (W L k e a : ℕ) (xs : List Element) → Out e a ≡ scanFrom W L k xs → Left W L e a xs
+unfolding scanFrom firstOutside
+scan-out W L k e a [] q = let z : _≡_ {A = ℕ} 0 1 = cc in absurd (omega arith)
+scan-out W L k e a (x ∷ xs) q = go (inWindow W L (x .address) (length (x .bytes))) refl q (λ r. scan-out W L (suc k) e a xs r)
+  where
+    go : (b : Bool) → inWindow W L (x .address) (length (x .bytes)) ≡ b → Out e a ≡ cond b (scanFrom W L (suc k) xs) (Out (x .number) (x .address))
+        → (Out e a ≡ scanFrom W L (suc k) xs → Left W L e a xs) → Left W L e a (x ∷ xs)
+    go true i r rest =
+        let l = rest r in
+        record {
+          x = l .x;
+          out = ap (λ (b : Bool). cond b (firstOutside W L xs) (some x)) i ∙ l .out;
+          number = l .number;
+          address = l .address;
+          there = refl;
+        }
+    go false i r rest = record { x = x; out = ap (λ (b : Bool). cond b (firstOutside W L xs) (some x)) i; number = cc; address = cc; there = refl }
+
+-- as many as there are, and some
+pub some-active : (n : ℕ) (xs : List Element) → n ≡ length xs → not (eqb n 0) ≡ isSome xs
+some-active n [] e = ap not (eq-eqb n 0 e)
+some-active n (x ∷ xs) e = ap not (ne-eqb n 0 (λ z. omega arith))
+
+-- ---- verdicts 6 and 7
+
+module _ (f : Flags) (sp : ℕ) (s : Bool) (W L n : ℕ) (xs : List Element) where
+  pub settled-stack : (b : Bool) → b ≡ stack f sp s xs → b ≡ true → Stack ≡ settled f sp s W L n xs
+  unfolding settled
+  settled-stack b e t = sym (ap (λ (y : Bool). cond y Stack (concluded (firstOutside W L xs) n xs)) (sym e ∙ t))
+
+  module _ (b : Bool) (e : b ≡ stack f sp s xs) (t : b ≡ false) where
+    past-stack : settled f sp s W L n xs ≡ concluded (firstOutside W L xs) n xs
+    unfolding settled
+    past-stack = ap (λ (y : Bool). cond y Stack (concluded (firstOutside W L xs) n xs)) (sym e ∙ t)
+
+    pub settled-fault : (i a : ℕ) → Left W L i a xs → Fault i a ≡ settled f sp s W L n xs
+    settled-fault i a l =
+        ap₂ Fault (l .number) (l .address)
+        ∙ sym (past-stack ∙ ap (λ (o : Option Element). concluded o n xs) (l .out))
+
+    pub settled-done : firstOutside W L xs ≡ none → Done (length xs) (length xs * n) ≡ settled f sp s W L n xs
+    settled-done q = sym (past-stack ∙ ap (λ (o : Option Element). concluded o n xs) q)
+
+-- ---- flags
+
+module _ (f : Flags) where
+  pub off-as : (x y : Feature) (n : ℕ) (b : Bool) → n ≡ flag x → n ≡ flag y → b ≡ not (flagOn f y) → b ≡ not (flagOn f x)
+  off-as x y n b p q r = r ∙ ap (λ (z : Feature). not (flagOn f z)) (flag-inj y x (sym q ∙ p))
+
+  pub illegal-as : (x y : Feature) (n : ℕ) (b : Bool) → n ≡ flag x → n ≡ flag y → b ≡ illegal f y → b ≡ illegal f x
+  illegal-as x y n b p q r = r ∙ ap (λ (z : Feature). illegal f z) (flag-inj y x (sym q ∙ p))
+
+pub third : (x : Feature) (n : ℕ) → n ≡ flag x → (n ≡ 0 → ⊥) → (n ≡ 1 → ⊥) → n ≡ 2
+third SVE n e f g = absurd (f e)
+third SME2 n e f g = absurd (g e)
+third SVE2p1 n e f g = e
+
+pub not-second : (f : Flags) (x : Feature) (n : ℕ) → n ≡ flag x → (n ≡ 1 → ⊥) → illegal f SVE ≡ illegal f x
+not-second f SVE n e g = refl
+not-second f SME2 n e g = absurd (g e)
+not-second f SVE2p1 n e g = refl
+
+-- ---- VB
+
+pub record Vb (vb : ℕ) : Type 0 where
+  pub low : 16 ≤ vb
+  pub high : vb ≤ 256
+  pub sixteen : vb % 16 ≡ 0
+
+pub length-sound : (vb : ℕ) → lengthOk vb ≡ true → Vb vb
+unfolding lengthOk
+length-sound vb e =
+    ⊎-elim (λ h. of 16 (eqb-true vb 16 h) (omega arith) (omega arith) refl)
+    (⊎-elim (λ h. of 32 (eqb-true vb 32 h) (omega arith) (omega arith) refl)
+    (⊎-elim (λ h. of 64 (eqb-true vb 64 h) (omega arith) (omega arith) refl)
+    (⊎-elim (λ h. of 128 (eqb-true vb 128 h) (omega arith) (omega arith) refl) (λ h. of 256 (eqb-true vb 256 h) (omega arith) (omega arith) refl))))
+    (one-of (eqb vb 16) (eqb vb 32) (eqb vb 64) (eqb vb 128) (eqb vb 256) e)
+  where
+    of : (n : ℕ) → vb ≡ n → 16 ≤ n → n ≤ 256 → n % 16 ≡ 0 → Vb vb
+    of n q a b d = record { low = omega arith; high = omega arith; sixteen = ap (λ (k : ℕ). k % 16) q ∙ d }

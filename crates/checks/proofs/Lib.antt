@@ -1,0 +1,5 @@
+pub mod Walking
+pub mod Spans
+pub mod Concluding
+pub mod Order
+pub mod Clearing

@@ -1,0 +1,131 @@
+// Checking a store over a lent machine and a window: verdicts 1 to 7.
+mod stores;
+mod strided;
+mod vectors;
+
+ghost use mathlib.Core.Path.{_≡_};
+ghost use mathlib.Core.Bool.{not};
+ghost use mathlib.Core.List.{List};
+ghost use Rattle.encoding.specs.Classes.{Feature, flag};
+ghost use Rattle.writes.specs.Elements.{Element};
+ghost use Rattle.elements.specs.Machine.{machine};
+ghost use Rattle.checks.specs.Verdicts.{lengthOk, flagOn, illegal, isSome, stack};
+ghost use Rattle.checks.specs.Checking.{CheckedAs};
+use elements::StridedPlan;
+use elements::VectorPlan;
+use encoding::Decoded;
+
+pub struct Flags {
+    pub sve: bool,
+    pub sme2: bool,
+    pub sve2p1: bool,
+    pub streaming: bool,
+    pub fa64: bool,
+    pub sp_check: bool,
+    // SP is checked with nothing active too.
+    pub sp_idle: bool,
+}
+
+// What running a store answers: document 01's verdicts 0 to 7.
+pub enum Verdict {
+    Done { elements: u64, bytes: u64 },
+    Length,
+    Registers,
+    Window,
+    Undefined,
+    Illegal,
+    Stack,
+    Fault { element: u64, address: u64 },
+}
+
+// A store's active elements against the window: their number where all lie in it, or the lowest that doesn't.
+pub enum Scan {
+    Clear { active: u64 },
+    Out { element: u64, address: u64 },
+}
+
+// What a done store moved.
+pub struct Counts {
+    pub elements: u64,
+    pub bytes: u64,
+}
+
+// What checking answers: the refusal, or the plan of the store, which is done.
+pub enum Checked {
+    Refused { verdict: Verdict },
+    Vector { plan: VectorPlan },
+    Strided { plan: StridedPlan },
+}
+
+pub fn length_ok(vb: usize) -> bool
+    ensures { λ r. ⌜ r ≡ lengthOk vb ⌝ }
+{
+    (vb == 16) | (vb == 32) | (vb == 64) | (vb == 128) | (vb == 256)
+}
+
+// Whether the class that needs this flag is off.
+fn is_off(flags: Flags, feature: u32) -> bool
+    ensures { λ r. ⌜ ((x : Feature) → feature ≡ flag x → r ≡ not (flagOn flags x)) ⌝ }
+{
+    if feature == 0 {
+        return !flags.sve;
+    }
+    if feature == 1 {
+        return !flags.sme2;
+    }
+    !flags.sve2p1
+}
+
+// Whether a store of a class that needs this flag is illegal.
+fn is_illegal(flags: Flags, feature: u32) -> bool
+    ensures { λ r. ⌜ ((x : Feature) → feature ≡ flag x → r ≡ illegal flags x) ⌝ }
+{
+    if feature == 1 {
+        return !flags.streaming;
+    }
+    flags.streaming & !flags.fa64
+}
+
+// Whether the stack check refuses a store, by whether its base is SP and it has active elements.
+fn is_stack(flags: Flags, sp: u64, on_stack: bool, some: bool) -> bool
+    ensures { λ r. ⌜ ((xs : List Element) → some ≡ isSome xs → r ≡ stack flags sp «on_stack» xs) ⌝ }
+{
+    on_stack & flags.sp_check & (sp % 16 != 0) & (some | flags.sp_idle)
+}
+
+// Checks 1 to 7 for the store that a word is, with a window of `length` bytes at `base`.
+pub fn check(
+    vb: usize,
+    flags: Flags,
+    x: &[u64; 31],
+    sp: u64,
+    z: &[u8],
+    p: &[u8],
+    base: u64,
+    length: u64,
+    word: u32,
+) -> Checked
+    ensures { λ r. ⌜ CheckedAs flags (machine vb (now (x .entry)) sp (now (z .entry)) (now (p .entry))) base length word r ⌝ }
+{
+    if !length_ok(vb) {
+        return Checked::Refused {
+            verdict: Verdict::Length,
+        };
+    }
+    if (z.len() != 32 * vb) | (p.len() != 2 * vb) {
+        return Checked::Refused {
+            verdict: Verdict::Registers,
+        };
+    }
+    if !writes::window_ok(base, length) {
+        return Checked::Refused {
+            verdict: Verdict::Window,
+        };
+    }
+    match encoding::decode(word) {
+        Decoded::Known(store) => stores::check_store(store, flags, vb, x, sp, z, p, base, length),
+        Decoded::Undefined => Checked::Refused {
+            verdict: Verdict::Undefined,
+        },
+    }
+}

@@ -1,0 +1,206 @@
+// Checking a decoded store: verdicts 4 to 7.
+ghost use mathlib.Core.Path.{_≡_};
+ghost use mathlib.Core.Bool.{false};
+ghost use mathlib.Core.List.{List};
+ghost use Prim.Native.Nat.{ℕ, _*_};
+ghost use lib.ListN.{length};
+ghost use Rattle.encoding.specs.Encoding.{refused};
+ghost use Rattle.writes.specs.Elements.{Element};
+ghost use Rattle.elements.specs.Machine.{machine};
+ghost use Rattle.elements.specs.Plans.{VectorSound, StridedSound, stridedElements};
+ghost use Rattle.checks.specs.Scanning.{scanOf};
+ghost use Rattle.checks.specs.Verdicts.{settled, verdictFor};
+ghost use Rattle.checks.specs.Steps.{Sound, vectorsIn, planOf, checkedBy};
+use super::Checked;
+use super::Flags;
+use super::Scan;
+use super::Verdict;
+use super::is_illegal;
+use super::is_off;
+use super::is_stack;
+use super::strided::scan_strided;
+use super::vectors::scan_vector;
+use elements::StridedPlan;
+use elements::VectorPlan;
+use encoding::Decoded;
+use encoding::QuadwordFields;
+use encoding::ScatterFields;
+use encoding::Store;
+use encoding::StridedFields;
+
+// Verdicts 6 and 7 by what the scan found, or the plan.
+fn settle(scan: Scan, on_stack: bool, flags: Flags, sp: u64, plan: Checked) -> Checked
+    ensures { λ r. ⌜ ((W L n : ℕ) (xs : List Element) → scan ≡ scanOf W L xs → r ≡ checkedBy (settled flags sp «on_stack» W L n xs) plan) ⌝ }
+{
+    match scan {
+        Scan::Out { element, address } => {
+            if is_stack(flags, sp, on_stack, true) {
+                return Checked::Refused {
+                    verdict: Verdict::Stack,
+                };
+            }
+            Checked::Refused {
+                verdict: Verdict::Fault { element, address },
+            }
+        }
+        Scan::Clear { active } => {
+            if is_stack(flags, sp, on_stack, active != 0) {
+                return Checked::Refused {
+                    verdict: Verdict::Stack,
+                };
+            }
+            plan
+        }
+    }
+}
+
+// From verdict 6 on, for a scatter or quadword store.
+fn check_vector(
+    v: VectorPlan,
+    on_stack: bool,
+    flags: Flags,
+    vb: usize,
+    sp: u64,
+    z: &[u8],
+    p: &[u8],
+    base: u64,
+    room: u64,
+) -> Checked
+    requires { ⌜ VectorSound v vb ⌝ }
+    requires { ⌜ Sound vb (now z) (now p) ⌝ }
+    ensures { λ r. ⌜ r ≡ checkedBy (settled flags sp «on_stack» base room (v .size) (vectorsIn v vb (now (z .entry)) (now (p .entry)))) (Checked.Vector v) ⌝ }
+{
+    let offsets = elements::register_of(z, vb, v.offsets);
+    let governing = elements::register_of(p, vb / 8, v.governing);
+    let scan = scan_vector(v, vb, offsets, governing, base, room);
+    settle(scan, on_stack, flags, sp, Checked::Vector { plan: v })
+}
+
+// From verdict 6 on, for a strided store.
+fn check_strided(
+    s: StridedPlan,
+    on_stack: bool,
+    flags: Flags,
+    vb: usize,
+    sp: u64,
+    z: &[u8],
+    base: u64,
+    room: u64,
+) -> Checked
+    requires { ⌜ StridedSound s vb ⌝ }
+    requires { ⌜ length (now z) ≡ 32 * vb ⌝ }
+    ensures { λ r. ⌜ r ≡ checkedBy (settled flags sp «on_stack» base room (s .size) (stridedElements s vb (now (z .entry)))) (Checked.Strided s) ⌝ }
+{
+    let scan = scan_strided(s, vb, base, room);
+    settle(scan, on_stack, flags, sp, Checked::Strided { plan: s })
+}
+
+fn scatter(
+    f: ScatterFields,
+    flags: Flags,
+    vb: usize,
+    x: &[u64; 31],
+    sp: u64,
+    z: &[u8],
+    p: &[u8],
+    base: u64,
+    room: u64,
+) -> Checked
+    requires { ⌜ refused (Store.Scatter f) ≡ false ⌝ }
+    requires { ⌜ Sound vb (now z) (now p) ⌝ }
+    ensures { λ r. ⌜ r ≡ checkedBy (verdictFor flags (machine vb (now (x .entry)) sp (now (z .entry)) (now (p .entry))) base room (Decoded.Known (Store.Scatter f))) (planOf (machine vb (now (x .entry)) sp (now (z .entry)) (now (p .entry))) (Store.Scatter f)) ⌝ }
+{
+    if is_off(flags, 0) {
+        return Checked::Refused {
+            verdict: Verdict::Undefined,
+        };
+    }
+    if is_illegal(flags, 0) {
+        return Checked::Refused {
+            verdict: Verdict::Illegal,
+        };
+    }
+    let plan = elements::scatter_plan(f, vb, x, sp);
+    check_vector(plan, f.rn == 31, flags, vb, sp, z, p, base, room)
+}
+
+fn quadword(
+    f: QuadwordFields,
+    flags: Flags,
+    vb: usize,
+    x: &[u64; 31],
+    sp: u64,
+    z: &[u8],
+    p: &[u8],
+    base: u64,
+    room: u64,
+) -> Checked
+    requires { ⌜ refused (Store.Quadword f) ≡ false ⌝ }
+    requires { ⌜ Sound vb (now z) (now p) ⌝ }
+    ensures { λ r. ⌜ r ≡ checkedBy (verdictFor flags (machine vb (now (x .entry)) sp (now (z .entry)) (now (p .entry))) base room (Decoded.Known (Store.Quadword f))) (planOf (machine vb (now (x .entry)) sp (now (z .entry)) (now (p .entry))) (Store.Quadword f)) ⌝ }
+{
+    if is_off(flags, 2) {
+        return Checked::Refused {
+            verdict: Verdict::Undefined,
+        };
+    }
+    if is_illegal(flags, 2) {
+        return Checked::Refused {
+            verdict: Verdict::Illegal,
+        };
+    }
+    let plan = elements::quadword_plan(f, vb, x);
+    check_vector(plan, false, flags, vb, sp, z, p, base, room)
+}
+
+fn strided(
+    f: StridedFields,
+    flags: Flags,
+    vb: usize,
+    x: &[u64; 31],
+    sp: u64,
+    z: &[u8],
+    p: &[u8],
+    base: u64,
+    room: u64,
+) -> Checked
+    requires { ⌜ refused (Store.Strided f) ≡ false ⌝ }
+    requires { ⌜ Sound vb (now z) (now p) ⌝ }
+    ensures { λ r. ⌜ r ≡ checkedBy (verdictFor flags (machine vb (now (x .entry)) sp (now (z .entry)) (now (p .entry))) base room (Decoded.Known (Store.Strided f))) (planOf (machine vb (now (x .entry)) sp (now (z .entry)) (now (p .entry))) (Store.Strided f)) ⌝ }
+{
+    if is_off(flags, 1) {
+        return Checked::Refused {
+            verdict: Verdict::Undefined,
+        };
+    }
+    if is_illegal(flags, 1) {
+        return Checked::Refused {
+            verdict: Verdict::Illegal,
+        };
+    }
+    let plan = elements::strided_plan(f, vb, x, sp, p);
+    check_strided(plan, f.rn == 31, flags, vb, sp, z, base, room)
+}
+
+// From verdict 4 on, for a decoded store.
+pub fn check_store(
+    store: Store,
+    flags: Flags,
+    vb: usize,
+    x: &[u64; 31],
+    sp: u64,
+    z: &[u8],
+    p: &[u8],
+    base: u64,
+    room: u64,
+) -> Checked
+    requires { ⌜ refused store ≡ false ⌝ }
+    requires { ⌜ Sound vb (now z) (now p) ⌝ }
+    ensures { λ r. ⌜ r ≡ checkedBy (verdictFor flags (machine vb (now (x .entry)) sp (now (z .entry)) (now (p .entry))) base room (Decoded.Known store)) (planOf (machine vb (now (x .entry)) sp (now (z .entry)) (now (p .entry))) store) ⌝ }
+{
+    match store {
+        Store::Scatter(f) => scatter(f, flags, vb, x, sp, z, p, base, room),
+        Store::Strided(f) => strided(f, flags, vb, x, sp, z, p, base, room),
+        Store::Quadword(f) => quadword(f, flags, vb, x, sp, z, p, base, room),
+    }
+}

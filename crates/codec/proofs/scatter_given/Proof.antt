@@ -1,0 +1,68 @@
+-- Entry by entry. Assumes nothing.
+use mathlib.Core.Path.{ap}
+use Rattle.encoding.specs.declared.Extension.{Extension}
+use Rattle.encoding.specs.declared.Store.the-variants.{Scatter}
+use Rattle.codec.specs.Codec.{entry}
+use borrow.Author.Needs.{needs}
+use Rattle.codec.proofs.scatter_given.Statement.{statement}
+use Rattle.codec.proofs.scatter_given.Tie as tie
+
+element-copy-out-t4 : tie.Need-element-copy-out-t4
+element-copy-out-t4 c = search needs
+
+cast-t5 : tie.Need-cast-t5
+cast-t5 c = search needs
+
+element-copy-out-t8 : tie.Need-element-copy-out-t8
+element-copy-out-t8 c = search needs
+
+cast-t9 : tie.Need-cast-t9
+cast-t9 c = search needs
+
+element-copy-out-extension-of : tie.Need-element-copy-out-extension-of
+element-copy-out-extension-of c = search needs
+
+extension-of-requires : tie.Need-extension-of-requires
+extension-of-requires c κs = search needs
+
+element-copy-out-t16 : tie.Need-element-copy-out-t16
+element-copy-out-t16 c = search needs
+
+cast-t17 : tie.Need-cast-t17
+cast-t17 c = search needs
+
+element-copy-out-t20 : tie.Need-element-copy-out-t20
+element-copy-out-t20 c = search needs
+
+cast-t21 : tie.Need-cast-t21
+cast-t21 c = search needs
+
+element-copy-out-t24 : tie.Need-element-copy-out-t24
+element-copy-out-t24 c = search needs
+
+cast-t25 : tie.Need-cast-t25
+cast-t25 c = search needs
+
+returns : tie.Need-returns
+returns c =
+    let es = c .before .before .before .before .before .before .before .args .fields .now in
+    ap (λ (x : Extension). Scatter (record { class = entry es 0; zm = entry es 1; extension = x; pg = entry es 3; rn = entry es 4; zt = entry es 5 }))
+    (c .before .before .before .extension-of .ensures)
+
+pub scatter-given-spec : {M : Type 1} → statement M
+scatter-given-spec =
+    tie.close
+    (tie.spec
+    element-copy-out-t4
+    cast-t5
+    element-copy-out-t8
+    cast-t9
+    element-copy-out-extension-of
+    extension-of-requires
+    element-copy-out-t16
+    cast-t17
+    element-copy-out-t20
+    cast-t21
+    element-copy-out-t24
+    cast-t25
+    returns)

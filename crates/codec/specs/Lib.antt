@@ -1,0 +1,2 @@
+-- A decoded store as eight numbers at the interface, and back.
+pub mod Codec

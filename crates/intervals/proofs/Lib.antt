@@ -1,0 +1,4 @@
+pub mod Inserting
+pub mod Moving
+pub mod Arrays
+pub mod Gathering

@@ -1,0 +1,13 @@
+-- The higher of two numbers, by truncated subtraction. Assumes nothing.
+use native.Mathlib.Omega.{arith}
+use Rattle.intervals.proofs.high.Statement.{statement}
+use Rattle.intervals.proofs.high.Tie as tie
+
+returns : tie.Need-returns
+returns c = omega arith
+
+returns-2 : tie.Need-returns-2
+returns-2 c = omega arith
+
+pub high-spec : {M : Type 1} → statement M
+high-spec = tie.close (tie.spec returns returns-2)

@@ -1,0 +1,6 @@
+pub mod Finishing
+pub mod Fitting
+pub mod Gathering
+pub mod Laying
+pub mod Plans
+pub mod Outcomes

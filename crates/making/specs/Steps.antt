@@ -1,0 +1,36 @@
+-- For the contracts of the code's own functions. Assumes nothing.
+use Prim.Native.Nat.{ℕ, _+_, _*_, _≤_, _<_}
+use mathlib.Core.Bool.{Bool, true}
+use mathlib.Core.List.{List, []}
+use mathlib.Core.Path.{_≡_}
+use lib.ListN.{length}
+use Rattle.writes.specs.Elements.{Element, netEffect}
+use Rattle.writes.specs.Encoding.{encode}
+use Rattle.intervals.specs.Intervals.{inserts, AllHeld}
+use Rattle.intervals.specs.Arrays.{intervalsAt, Held}
+use Rattle.composing.specs.Composing.{total}
+use Rattle.composing.specs.Places.{Placed}
+use Rattle.checks.specs.declared.Verdict.the-variants.{Done}
+use Rattle.making.specs.Making.{makingOf, bufferAfter}
+use Rattle.making.specs.declared.Making.{Making}
+
+-- each active element of n, of `size` bytes, lies in the window of L bytes at W
+abbrev pub EachInside : (ℕ → Bool) → (ℕ → ℕ) → ℕ → ℕ → ℕ → ℕ → Type 0
+EachInside on address size n W L = (e : ℕ) → e < n → on e ≡ true → (W ≤ address e) × (address e + size ≤ W + L)
+
+-- the first n entries of two arrays are the intervals of the elements' places
+pub record Gathered (W L : ℕ) (es : List Element) (starts lengths : List ℕ) (n : ℕ) : Type 0 where
+  pub held : Held starts lengths n L
+  pub same : intervalsAt starts lengths 0 n ≡ inserts W [] es
+
+-- the buffer has room for the patch, and each element an interval
+pub record Composed (W L : ℕ) (es : List Element) (starts lengths places : List ℕ) (n : ℕ) (out : List ℕ) : Type 0 where
+  pub held : Held starts lengths n L
+  pub placed : Placed starts lengths places n
+  pub all : AllHeld W (intervalsAt starts lengths 0 n) es
+  pub room : total (intervalsAt starts lengths 0 n) + 4 ≤ length out
+
+-- making the patch of these elements, of `size` bytes each, answers r and leaves the buffer
+pub record MadeOf (es : List Element) (size : ℕ) (buffer : List ℕ) (r : Making) (buffer′ : List ℕ) : Type 0 where
+  pub answer : r ≡ makingOf (Done (length es) (length es * size)) (encode (netEffect es)) (length buffer)
+  pub after : buffer′ ≡ bufferAfter r (encode (netEffect es)) buffer

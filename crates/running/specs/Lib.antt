@@ -1,0 +1,2 @@
+-- What running a store answers and leaves, from document 01.
+pub mod Running

@@ -1,5 +1,0 @@
-pub mod Walking
-pub mod Spans
-pub mod Parts
-pub mod Concluding
-pub mod Running
