@@ -1,0 +1,227 @@
+/*
+ * Starshackle: a proved model of Arm's predicated vector stores (SVE scatter ST1D and ST1B, SME2 strided ST1D, SVE2p1 ST1Q).
+ *
+ * Link with libstarshackle.a, which `rt staticlib starshackle` makes. It needs nothing but the C library.
+ *
+ * Every function answers a verdict's number, and writes all entries of the array that it is lent for its answer (`answer` or
+ * `fields`), whatever the verdict. Every verdict but STARSHACKLE_DONE is a refusal: then memory and patch are as they came.
+ *
+ * What a caller owes; nothing checks it:
+ * - `fields` points to 8, `answer` to 5, `x` to 31 numbers, aligned as uint64_t is. They are never null.
+ * - `z`, `p`, `memory` and `patch` point to as many bytes as the length behind them says, or more. They need no alignment. With
+ *   length 0 they may be null. (Tried with each of them, in each function that takes it: tests/c/test_starshackle.c.)
+ * - What a call writes (`fields` of starshackle_decode, `answer`, `memory`, `patch` of starshackle_make_patch) overlaps nothing else
+ *   that the call is lent. What it only reads may overlap.
+ * - Nobody else writes what is lent until the call is back.
+ *
+ * Nothing is asked of the content: every number, byte and length gets its verdict. No pointer is kept, no memory is allocated, and
+ * there is no state: calls don't depend on each other, and threads may call at the same time. A call takes a few KiB of stack.
+ */
+#ifndef STARSHACKLE_H
+#define STARSHACKLE_H
+
+#include <stddef.h>
+#include <stdint.h>
+
+#ifdef __cplusplus
+extern "C" {
+#endif
+
+/* Verdicts, in the order in which they are checked: the lowest that is due is answered. */
+enum starshackle_verdict {
+    STARSHACKLE_DONE = 0,
+    STARSHACKLE_LENGTH = 1,    /* vb is none of 16, 32, 64, 128, 256 */
+    STARSHACKLE_REGISTERS = 2, /* z_len isn't 32 * vb, or p_len isn't 2 * vb */
+    STARSHACKLE_WINDOW = 3,    /* the window is longer than 65,536 bytes, or passes 2^64; it may end there */
+    STARSHACKLE_UNDEFINED = 4, /* the word is of no class, or its flag is off: SVE for 1..7, SME2 for 8..11, SVE2P1 for 12 */
+    STARSHACKLE_ILLEGAL = 5,   /* 1..7 and 12: streaming on and FA64 off; 8..11: streaming off */
+    STARSHACKLE_STACK = 6,     /* SP is the base, is checked, and isn't a multiple of 16 */
+    STARSHACKLE_FAULT = 7,     /* an active element has a byte outside the window */
+    STARSHACKLE_NO_ROOM = 8,   /* the patch buffer is shorter than the patch */
+    STARSHACKLE_BAD_PATCH = 9, /* the bytes are no patch */
+    STARSHACKLE_OUTSIDE = 10,  /* a run isn't wholly in the window */
+    STARSHACKLE_FIELDS = 11    /* no word has these fields */
+};
+
+/* Bits of `flags`; higher ones mean nothing. */
+enum starshackle_flag {
+    STARSHACKLE_FLAG_SVE = 1,
+    STARSHACKLE_FLAG_SME2 = 2,
+    STARSHACKLE_FLAG_SVE2P1 = 4,
+    STARSHACKLE_FLAG_STREAMING = 8,            /* streaming mode is on */
+    STARSHACKLE_FLAG_FA64 = 16,                /* classes 1..7 and 12 are legal in streaming mode */
+    STARSHACKLE_FLAG_SP_CHECK = 32,            /* SP as a base has to be a multiple of 16 where an element is active, */
+    STARSHACKLE_FLAG_SP_CHECK_NONE_ACTIVE = 64 /* and, with this flag too, where none is */
+};
+
+/* Classes of words: instruction, element size where there are several, and how offsets or registers are given. */
+enum starshackle_class {
+    STARSHACKLE_CLASS_ST1D_32_UNPACKED_SCALED = 1,
+    STARSHACKLE_CLASS_ST1D_32_UNPACKED_UNSCALED = 2,
+    STARSHACKLE_CLASS_ST1D_64_SCALED = 3,
+    STARSHACKLE_CLASS_ST1D_64_UNSCALED = 4,
+    STARSHACKLE_CLASS_ST1B_32_UNPACKED = 5,
+    STARSHACKLE_CLASS_ST1B_32 = 6,
+    STARSHACKLE_CLASS_ST1B_64 = 7,
+    STARSHACKLE_CLASS_ST1D_STRIDED_TWO_SCALAR = 8,
+    STARSHACKLE_CLASS_ST1D_STRIDED_FOUR_SCALAR = 9,
+    STARSHACKLE_CLASS_ST1D_STRIDED_TWO_IMMEDIATE = 10,
+    STARSHACKLE_CLASS_ST1D_STRIDED_FOUR_IMMEDIATE = 11,
+    STARSHACKLE_CLASS_ST1Q = 12
+};
+
+/* How the 32-bit offsets of classes 1, 2, 5 and 6 become 64-bit ones. */
+enum starshackle_extension {
+    STARSHACKLE_EXTENSION_NONE = 0, /* every other class */
+    STARSHACKLE_EXTENSION_UXTW = 1, /* with zeros */
+    STARSHACKLE_EXTENSION_SXTW = 2  /* with the sign */
+};
+
+/* Entries of `fields`: a store as its word names it. An entry for a field that the class lacks is 0. */
+enum starshackle_field {
+    STARSHACKLE_FIELD_CLASS = 0,
+    STARSHACKLE_FIELD_INDEX = 1,     /* Zm in classes 1..7; Rm in 8, 9 and 12 */
+    STARSHACKLE_FIELD_EXTENSION = 2,
+    STARSHACKLE_FIELD_PREDICATE = 3, /* Pg; in classes 8..11 the counter's register less 8 */
+    STARSHACKLE_FIELD_BASE = 4,      /* Rn, 31 for SP; in class 12 Zn */
+    STARSHACKLE_FIELD_REGISTER = 5,  /* Zt; in classes 8..11 the first of the registers */
+    STARSHACKLE_FIELD_MULTIPLE = 6,  /* classes 10 and 11: the immediate in vectors, in two's complement: (int64_t)fields[6] */
+    STARSHACKLE_FIELD_ZERO = 7       /* always 0 */
+};
+
+/* Lengths in bytes. */
+enum starshackle_length {
+    STARSHACKLE_LARGEST_STORE_PATCH = 1040, /* no store's patch is longer: a buffer for starshackle_make_patch with room for all */
+    STARSHACKLE_LARGEST_PATCH = 1796,       /* no patch is longer */
+    STARSHACKLE_LARGEST_WINDOW = 65536      /* no window is longer */
+};
+
+/*
+ * What a word is. No flag is looked at.
+ *
+ *   word    the instruction word
+ *   fields  for the answer, as in enum starshackle_field
+ *
+ * DONE       the word is of a class: fields[0] is its class, fields[1..6] are its fields, fields[7] is 0.
+ * UNDEFINED  it is of none: zeros.
+ */
+uint64_t starshackle_decode(uint32_t word, uint64_t fields[8]);
+
+/*
+ * The word that names a store.
+ *
+ *   fields  the store, as in enum starshackle_field; only read
+ *   answer  for the answer
+ *
+ * DONE    answer[4] is the word, answer[0..3] are 0. starshackle_decode answers these fields for it, and no other word has them.
+ * FIELDS  zeros. The class isn't in the list, a field is outside its range, a field that the class lacks isn't 0, the first register
+ *         or the multiple is one that the class can't name, an extension is given where the class has none or none where it has
+ *         one, or fields[7] isn't 0. Numbers are judged whole: none is cut to its field's width.
+ */
+uint64_t starshackle_encode(const uint64_t fields[8], uint64_t answer[5]);
+
+/*
+ * Runs the store that a word names: writes the bytes of its active elements, lowest element first, all of them or none.
+ *
+ *   vb      VB, the vector length in bytes
+ *   flags   bits of enum starshackle_flag
+ *   x       X0 to X30
+ *   sp      SP: register 31 as a base. Register 31 as Rm is zero.
+ *   z       the Z registers: register r from byte r * vb on, little-endian
+ *   z_len   how many bytes they are: 32 * vb, or the verdict is 2
+ *   p       the P registers: register g from byte g * vb / 8 on, bit i in byte i / 8 at place i % 8
+ *   p_len   how many bytes they are: 2 * vb, or the verdict is 2
+ *   base    the window's address: that of memory[0]
+ *   memory  the window's bytes
+ *   memory_len  how many bytes the window has
+ *   word    the instruction word
+ *   answer  for the answer
+ *
+ * DONE   answer[2] active elements, answer[3] bytes moved (an address that two elements write counts twice); else 0.
+ *        Bytes of memory that no active element covers are as they came.
+ * FAULT  answer[0] the lowest active element with a byte outside the window, answer[1] its first address; else 0.
+ *        Elements are numbered from 0, a strided store's through all its registers.
+ * LENGTH, REGISTERS, WINDOW, UNDEFINED, ILLEGAL, STACK  zeros.
+ */
+uint64_t starshackle_run(size_t vb, uint64_t flags, const uint64_t x[31], uint64_t sp, const uint8_t *z, size_t z_len,
+                         const uint8_t *p, size_t p_len, uint64_t base, uint8_t *memory, size_t memory_len, uint32_t word,
+                         uint64_t answer[5]);
+
+/*
+ * What one element of the word's store is. No flag and no window is looked at.
+ *
+ *   vb, x, sp, z, z_len, p, p_len, word  as in starshackle_run
+ *   e       the element's number, from 0 on, a strided store's through all its registers
+ *   answer  for the answer
+ *
+ * DONE   answer[4] is how many elements the store has, active or not. If e is below it:
+ *        answer[0] 1 if element e is active, else 0; answer[1] its first address; answer[2] the index in z of its first byte;
+ *        answer[3] how many bytes it writes. An element that isn't active has these too. Otherwise answer[0..3] are 0.
+ * LENGTH, REGISTERS, UNDEFINED (the word is of no class)  zeros.
+ */
+uint64_t starshackle_element(size_t vb, const uint64_t x[31], uint64_t sp, const uint8_t *z, size_t z_len, const uint8_t *p,
+                             size_t p_len, uint32_t word, uint64_t e, uint64_t answer[5]);
+
+/*
+ * A patch is a string of bytes that says which bytes are written where. Each run: 50 52 (hexadecimal), the start address in 8 bytes,
+ * the length in 2, then that many bytes. Behind the last run: 50 45, and the number of runs in 2 bytes. Numbers are little-endian.
+ * There are 0 to 64 runs; lengths are at least 1 and together at most 1,024; starts ascend, with at least one address between a run
+ * and the next; no run passes 2^64; nothing follows.
+ */
+
+/*
+ * Applies a patch to the window: writes every byte of it, or none.
+ *
+ *   base    the window's address: that of memory[0]
+ *   memory  the window's bytes
+ *   memory_len  how many bytes the window has
+ *   patch   the patch's bytes, all of them; only read
+ *   patch_len  how many bytes they are
+ *   answer  for the answer
+ *
+ * DONE     answer[2] runs, answer[3] payload bytes; else 0.
+ * OUTSIDE  answer[0] the lowest run, from 0 on, that isn't wholly in the window, answer[1] its first address; else 0.
+ * WINDOW, BAD_PATCH  zeros. starshackle_judge tells what is wrong with a bad patch.
+ */
+uint64_t starshackle_apply(uint64_t base, uint8_t *memory, size_t memory_len, const uint8_t *patch, size_t patch_len,
+                           uint64_t answer[5]);
+
+/*
+ * Whether bytes are a patch.
+ *
+ *   patch   the bytes; only read
+ *   patch_len  how many they are
+ *   answer  for the answer
+ *
+ * DONE       they are: answer[2] runs, answer[3] payload bytes; else 0.
+ * BAD_PATCH  they aren't: answer[0] how many runs from the front are whole and acceptable, answer[1] the index where these end and
+ *            something begins that can't be accepted: a run, an end, or an end with bytes behind it; else 0.
+ */
+uint64_t starshackle_judge(const uint8_t *patch, size_t patch_len, uint64_t answer[5]);
+
+/*
+ * Makes the patch of the store that a word names: the bytes that running it leaves in the window, each with its address. The
+ * window's memory isn't needed. Applying the patch to any content of the window leaves what running the store there leaves.
+ *
+ *   vb, flags, x, sp, z, z_len, p, p_len, word  as in starshackle_run
+ *   base    the window's address
+ *   length  how many bytes the window has
+ *   patch   where the patch goes
+ *   patch_len  how many bytes there is room for; STARSHACKLE_LARGEST_STORE_PATCH is always enough
+ *   answer  for the answer
+ *
+ * DONE     answer[2] active elements, answer[3] bytes moved, as in starshackle_run; answer[4] the patch's length; else 0. The patch
+ *          is the first answer[4] bytes of the buffer; bytes behind it are as they came.
+ * FAULT    as in starshackle_run.
+ * NO_ROOM  zeros.
+ * LENGTH, REGISTERS, WINDOW, UNDEFINED, ILLEGAL, STACK  zeros.
+ */
+uint64_t starshackle_make_patch(size_t vb, uint64_t flags, const uint64_t x[31], uint64_t sp, const uint8_t *z, size_t z_len,
+                                const uint8_t *p, size_t p_len, uint64_t base, uint64_t length, uint32_t word, uint8_t *patch,
+                                size_t patch_len, uint64_t answer[5]);
+
+#ifdef __cplusplus
+}
+#endif
+
+#endif

@@ -1,0 +1,473 @@
+"""Arm's predicated vector stores: the proved model, from Python.
+
+The model is the shared object beside this file, which `python/build` makes from the static library. This module gives its numbers
+names and refuses arguments that the model can't be lent; what is proved is said of the library.
+
+A machine has zeros where nothing is given. Its registers are bytes in a buffer, little-endian, which can be changed in place. The
+whole example of document 01, `st1b { z1.s }, p0, [x0, z2.s, uxtw]`:
+
+>>> import struct
+>>> machine = Machine(vb=16, flags=Flags.SVE)
+>>> machine.x[0] = 0x1000
+>>> machine.z[16:32] = struct.pack("<4I", 0xA1, 0xA2, 0xA3, 0xA4)
+>>> machine.z[32:48] = struct.pack("<4I", 0, 1, 1, 5)
+>>> machine.p[0:2] = b"\\xff\\xff"
+>>> memory = bytearray(8)
+>>> run(machine, 0x1000, memory, 0xE4428001)
+Ran(verdict=<Verdict.DONE: 0>, element=0, address=0, elements=4, bytes=4)
+>>> memory.hex(" ")
+'a1 a3 00 00 00 a4 00 00'
+
+Its patch says the same without the memory:
+
+>>> patch = bytearray(LARGEST_STORE_PATCH)
+>>> made = make_patch(machine, 0x1000, 8, 0xE4428001, patch)
+>>> made
+Made(verdict=<Verdict.DONE: 0>, element=0, address=0, elements=4, bytes=4, length=31)
+>>> patch[:made.length].hex()
+'505200100000000000000200a1a3505205100000000000000100a450450200'
+
+Memory and patch are bytearrays that a call changes in place; every verdict but DONE leaves them as they came. All other buffers are
+bytes or bytearrays and are only read. An argument of another type is a TypeError, a number that is out of range a ValueError; both
+are raised before the model is called. Whatever passes gets a verdict, and a verdict never raises anything.
+
+A call holds the interpreter's lock, so that no other thread changes what is lent.
+"""
+
+import ctypes
+import operator
+import os
+from dataclasses import dataclass
+from enum import IntEnum, IntFlag
+from typing import List, Optional, Union
+
+__all__ = [
+    "Verdict", "Flags", "Extension", "Machine", "Store", "Decoded", "Encoded", "Ran", "Element", "Applied", "Judged", "Made",
+    "decode", "encode", "run", "element", "apply", "judge", "make_patch",
+    "LENGTHS", "LARGEST_STORE_PATCH", "LARGEST_PATCH", "LARGEST_WINDOW",
+]
+
+LENGTHS = (16, 32, 64, 128, 256)
+"""The lengths that a vector may have, in bytes."""
+
+LARGEST_STORE_PATCH = 1040
+"""No store's patch is longer: a buffer for `make_patch` with room for all."""
+
+LARGEST_PATCH = 1796
+"""No patch is longer."""
+
+LARGEST_WINDOW = 65536
+"""No window is longer."""
+
+
+class Verdict(IntEnum):
+    """What a call answers, in the order in which it is checked; all but DONE are refusals."""
+
+    DONE = 0
+    LENGTH = 1  # vb is none of LENGTHS
+    REGISTERS = 2  # z has other than 32 * vb bytes, or p other than 2 * vb
+    WINDOW = 3  # the window is longer than LARGEST_WINDOW, or passes 2**64
+    UNDEFINED = 4  # the word is of no class, or its flag is off
+    ILLEGAL = 5  # classes 1 to 7 and 12: streaming on and FA64 off; 8 to 11: streaming off
+    STACK = 6  # SP is the base, is checked, and isn't a multiple of 16
+    FAULT = 7  # an active element has a byte outside the window
+    NO_ROOM = 8  # the patch buffer is shorter than the patch
+    BAD_PATCH = 9  # the bytes are no patch
+    OUTSIDE = 10  # a run isn't wholly in the window
+    FIELDS = 11  # no word has these fields
+
+
+class Flags(IntFlag):
+    """What the machine has, and which state it is in. Higher bits mean nothing."""
+
+    SVE = 1
+    SME2 = 2
+    SVE2P1 = 4
+    STREAMING = 8
+    FA64 = 16
+    SP_CHECK = 32
+    SP_CHECK_NONE_ACTIVE = 64
+
+
+class Extension(IntEnum):
+    """How a 32-bit offset becomes a 64-bit one, in classes 1, 2, 5 and 6."""
+
+    NONE = 0
+    UXTW = 1
+    SXTW = 2
+
+
+@dataclass
+class Machine:
+    """The registers that a store reads, and the machine's flags. What isn't given is zero.
+
+    vb is the vector length in bytes. x has X0 to X30. Z register r starts at byte r * vb of z, P register g at byte g * vb // 8 of p,
+    with bit i in byte i // 8 at place i % 8.
+
+    >>> machine = Machine(vb=32)
+    >>> len(machine.x), len(machine.z), len(machine.p)
+    (31, 1024, 64)
+    """
+
+    vb: int = 16
+    flags: int = 0
+    x: Optional[List[int]] = None
+    sp: int = 0
+    z: Union[bytes, bytearray, None] = None
+    p: Union[bytes, bytearray, None] = None
+
+    def __post_init__(self):
+        vb = self.vb if self.vb in LENGTHS else 0
+        self.x = [0] * 31 if self.x is None else self.x
+        self.z = bytearray(32 * vb) if self.z is None else self.z
+        self.p = bytearray(2 * vb) if self.p is None else self.p
+
+
+@dataclass(frozen=True)
+class Store:
+    """A store as its word names it. A field that the class lacks is 0.
+
+    index is Zm, or Rm in classes 8, 9 and 12; predicate is Pg, or the counter's register less 8 in classes 8 to 11; base is Rn, or
+    Zn in class 12; register is Zt, or the first of the registers in classes 8 to 11; multiple is the immediate, in vectors.
+    """
+
+    class_: int
+    index: int = 0
+    extension: int = Extension.NONE
+    predicate: int = 0
+    base: int = 0
+    register: int = 0
+    multiple: int = 0
+
+
+@dataclass(frozen=True)
+class _Answer:
+    verdict: Verdict
+
+    @property
+    def done(self):
+        """Whether the verdict is DONE."""
+        return self.verdict is Verdict.DONE
+
+
+@dataclass(frozen=True)
+class Decoded(_Answer):
+    """What a word is: DONE with its store, or UNDEFINED."""
+
+    store: Optional[Store]
+
+
+@dataclass(frozen=True)
+class Encoded(_Answer):
+    """The word that names a store: DONE with the word, or FIELDS."""
+
+    word: Optional[int]
+
+
+@dataclass(frozen=True)
+class Ran(_Answer):
+    """What running a store answers.
+
+    DONE: elements that were active, bytes that they moved. FAULT: the lowest active element with a byte outside the window, and its
+    first address. What a verdict doesn't have is 0.
+    """
+
+    element: int
+    address: int
+    elements: int
+    bytes: int
+
+
+@dataclass(frozen=True)
+class Element(_Answer):
+    """What one element of a store is.
+
+    DONE: whether it is active, its first address, the place of its first byte in z, how many bytes it writes, and how many elements
+    the store has, active or not. Past the last element all but that number is 0, as all is in a refusal.
+    """
+
+    active: bool
+    address: int
+    place: int
+    bytes: int
+    elements: int
+
+
+@dataclass(frozen=True)
+class Applied(_Answer):
+    """What applying a patch answers.
+
+    DONE: its runs and payload bytes. OUTSIDE: the lowest run that isn't wholly in the window, and its first address. What a verdict
+    doesn't have is 0.
+    """
+
+    run: int
+    address: int
+    runs: int
+    bytes: int
+
+
+@dataclass(frozen=True)
+class Judged(_Answer):
+    """Whether bytes are a patch.
+
+    DONE: its runs and payload bytes. BAD_PATCH: how many runs from the front are acceptable, and the offset where these end and
+    something begins that isn't. What a verdict doesn't have is 0.
+    """
+
+    acceptable: int
+    offset: int
+    runs: int
+    bytes: int
+
+
+@dataclass(frozen=True)
+class Made(_Answer):
+    """What making a patch answers.
+
+    DONE: active elements and the bytes that they move, and the patch's length. FAULT: as in `Ran`. What a verdict doesn't have is 0.
+    """
+
+    element: int
+    address: int
+    elements: int
+    bytes: int
+    length: int
+
+
+# ---- the library
+
+_Fields = ctypes.c_uint64 * 8
+_Answers = ctypes.c_uint64 * 5
+_X = ctypes.c_uint64 * 31
+
+_U32, _U64, _SIZE, _BYTES = ctypes.c_uint32, ctypes.c_uint64, ctypes.c_size_t, ctypes.c_void_p
+_SLICE = [_BYTES, _SIZE]
+_REGISTERS = [_X, _U64, *_SLICE, *_SLICE]
+
+# These and include/starshackle.h are kept equal to the source by hand; a test compares the texts. An array is passed as a pointer.
+_PARAMETERS = {
+    "starshackle_decode": [_U32, _Fields],
+    "starshackle_encode": [_Fields, _Answers],
+    "starshackle_run": [_SIZE, _U64, *_REGISTERS, _U64, *_SLICE, _U32, _Answers],
+    "starshackle_element": [_SIZE, *_REGISTERS, _U32, _U64, _Answers],
+    "starshackle_apply": [_U64, *_SLICE, *_SLICE, _Answers],
+    "starshackle_judge": [*_SLICE, _Answers],
+    "starshackle_make_patch": [_SIZE, _U64, *_REGISTERS, _U64, _U64, _U32, *_SLICE, _Answers],
+}
+
+
+def _load():
+    path = os.path.join(os.path.dirname(os.path.abspath(__file__)), "libstarshackle.so")
+    if not os.path.exists(path):
+        raise ImportError(f"{path} isn't there: make it with python/build")
+    library = ctypes.PyDLL(path)
+    for name, parameters in _PARAMETERS.items():
+        function = getattr(library, name)
+        function.argtypes = parameters
+        function.restype = ctypes.c_uint64
+    return library
+
+
+_library = _load()
+
+
+# ---- arguments
+
+def _number(name, value, bits, signed=False):
+    """The number, which fits so many bits."""
+    try:
+        number = operator.index(value)
+    except TypeError:
+        raise TypeError(f"{name} must be an integer, not {type(value).__name__}") from None
+    least, most = (-1 << bits - 1, (1 << bits - 1) - 1) if signed else (0, (1 << bits) - 1)
+    if not least <= number <= most:
+        raise ValueError(f"{name} must be from {least} to {most:#x}, not {number:#x}")
+    return number
+
+
+def _instance(name, value, kind):
+    if not isinstance(value, kind):
+        raise TypeError(f"{name} must be a {kind.__name__}, not {type(value).__name__}")
+    return value
+
+
+def _slice(buffer):
+    """Pointer and length of bytes or a bytearray, which can't be resized while the pointer is there."""
+    if not buffer:
+        return None, 0
+    if isinstance(buffer, bytes):
+        return buffer, len(buffer)
+    return ctypes.byref(ctypes.c_char.from_buffer(buffer)), len(buffer)
+
+
+def _read(name, value):
+    if not isinstance(value, (bytes, bytearray)):
+        raise TypeError(f"{name} must be bytes or a bytearray, not {type(value).__name__}")
+    return _slice(value)
+
+
+def _changed(name, value, **read):
+    """A bytearray that the call changes. It must be none of those that the call reads."""
+    if not isinstance(value, bytearray):
+        raise TypeError(f"{name} must be a bytearray, which is changed in place, not {type(value).__name__}")
+    for other, buffer in read.items():
+        if buffer is value:
+            raise ValueError(f"{name} and {other} must not be the same bytearray")
+    return _slice(value)
+
+
+def _x(values):
+    if isinstance(values, (str, bytes, bytearray)):
+        raise TypeError(f"x must be 31 integers, not {type(values).__name__}")
+    try:
+        values = list(values)
+    except TypeError:
+        raise TypeError(f"x must be 31 integers, not {type(values).__name__}") from None
+    if len(values) != 31:
+        raise ValueError(f"x must have 31 numbers, X0 to X30, not {len(values)}")
+    return _X(*(_number(f"x[{r}]", value, 64) for r, value in enumerate(values)))
+
+
+def _registers(machine):
+    return (_x(machine.x), _number("sp", machine.sp, 64), *_read("z", machine.z), *_read("p", machine.p))
+
+
+def _machine(machine):
+    """VB, flags and registers, as the library takes them."""
+    _instance("machine", machine, Machine)
+    return (_number("vb", machine.vb, 64), _number("flags", machine.flags, 64), *_registers(machine))
+
+
+# ---- calls
+
+def decode(word):
+    """What a word is; no flag is looked at. Answers `Decoded`.
+
+    >>> decode(0xA16F6000).store
+    Store(class_=10, index=0, extension=<Extension.NONE: 0>, predicate=0, base=0, register=0, multiple=-2)
+    >>> decode(0xE4208000)
+    Decoded(verdict=<Verdict.UNDEFINED: 4>, store=None)
+    """
+    fields = _Fields()
+    verdict = Verdict(_library.starshackle_decode(_number("word", word, 32), fields))
+    if verdict is not Verdict.DONE:
+        return Decoded(verdict, None)
+    class_, index, extension, predicate, base, register, multiple, _ = fields
+    multiple = ctypes.c_int64(multiple).value
+    return Decoded(verdict, Store(class_, index, Extension(extension), predicate, base, register, multiple))
+
+
+def encode(store):
+    """The word that names a `Store`. Answers `Encoded`.
+
+    >>> hex(encode(Store(10, multiple=-2)).word)
+    '0xa16f6000'
+    >>> encode(Store(10, multiple=-1))
+    Encoded(verdict=<Verdict.FIELDS: 11>, word=None)
+    """
+    _instance("store", store, Store)
+    names = ["class_", "index", "extension", "predicate", "base", "register"]
+    numbers = [_number(name, getattr(store, name), 64) for name in names]
+    multiple = _number("multiple", store.multiple, 64, signed=True) % (1 << 64)
+    answer = _Answers()
+    verdict = Verdict(_library.starshackle_encode(_Fields(*numbers, multiple, 0), answer))
+    return Encoded(verdict, answer[4] if verdict is Verdict.DONE else None)
+
+
+def run(machine, base, memory, word):
+    """Runs the store that a word names over the window of `memory`, whose first byte has the address `base`. Answers `Ran`.
+
+    memory is a bytearray, changed in place: by all active elements, lowest first, when the verdict is DONE, and else not at all.
+
+    >>> machine = Machine(flags=Flags.SME2 | Flags.STREAMING)  # st1d { z0.d, z8.d }, pn8, [x0]
+    >>> machine.z[0:16], machine.z[128:144] = b"0123456789abcdef", b"ghijklmnopqrstuv"
+    >>> machine.p[16:18] = b"\\x38\\x00"  # the first three elements of 64 bits
+    >>> memory = bytearray(b"." * 28)
+    >>> run(machine, 0, memory, 0xA1606000)
+    Ran(verdict=<Verdict.DONE: 0>, element=0, address=0, elements=3, bytes=24)
+    >>> memory
+    bytearray(b'0123456789abcdefghijklmn....')
+    >>> run(machine, 0, bytearray(20), 0xA1606000)
+    Ran(verdict=<Verdict.FAULT: 7>, element=2, address=16, elements=0, bytes=0)
+    """
+    lent = _machine(machine)
+    base, word = _number("base", base, 64), _number("word", word, 32)
+    window = _changed("memory", memory, z=machine.z, p=machine.p)
+    answer = _Answers()
+    verdict = Verdict(_library.starshackle_run(*lent, base, *window, word, answer))
+    return Ran(verdict, *answer[:4])
+
+
+def element(machine, word, number):
+    """What the element with this number of the word's store is; no flag and no window is looked at. Answers `Element`.
+
+    >>> element(Machine(), 0xA1606000, 3)
+    Element(verdict=<Verdict.DONE: 0>, active=False, address=24, place=136, bytes=8, elements=4)
+    >>> element(Machine(), 0xA1606000, 4)
+    Element(verdict=<Verdict.DONE: 0>, active=False, address=0, place=0, bytes=0, elements=4)
+    """
+    vb, _, *registers = _machine(machine)
+    word, number = _number("word", word, 32), _number("number", number, 64)
+    answer = _Answers()
+    verdict = Verdict(_library.starshackle_element(vb, *registers, word, number, answer))
+    active, *others = answer
+    return Element(verdict, active == 1, *others)
+
+
+def apply(base, memory, patch):
+    """Applies a patch to the window of `memory`, whose first byte has the address `base`. Answers `Applied`.
+
+    memory is a bytearray, changed in place: by all of the patch when the verdict is DONE, and else not at all.
+
+    >>> patch = bytes.fromhex("5052 0510000000000000 0100 a4 5045 0100")
+    >>> memory = bytearray(8)
+    >>> apply(0x1000, memory, patch)
+    Applied(verdict=<Verdict.DONE: 0>, run=0, address=0, runs=1, bytes=1)
+    >>> memory.hex(" ")
+    '00 00 00 00 00 a4 00 00'
+    >>> apply(0x2000, memory, patch)
+    Applied(verdict=<Verdict.OUTSIDE: 10>, run=0, address=4101, runs=0, bytes=0)
+    """
+    base = _number("base", base, 64)
+    window, string = _changed("memory", memory, patch=patch), _read("patch", patch)
+    answer = _Answers()
+    verdict = Verdict(_library.starshackle_apply(base, *window, *string, answer))
+    return Applied(verdict, *answer[:4])
+
+
+def judge(patch):
+    """Whether bytes are a patch. Answers `Judged`.
+
+    >>> judge(b"PE\\0\\0")
+    Judged(verdict=<Verdict.DONE: 0>, acceptable=0, offset=0, runs=0, bytes=0)
+    >>> judge(bytes.fromhex("5052 0510000000000000 0100 a4 5045 0200"))
+    Judged(verdict=<Verdict.BAD_PATCH: 9>, acceptable=1, offset=13, runs=0, bytes=0)
+    """
+    string = _read("patch", patch)
+    answer = _Answers()
+    verdict = Verdict(_library.starshackle_judge(*string, answer))
+    return Judged(verdict, *answer[:4])
+
+
+def make_patch(machine, base, length, word, patch):
+    """Makes the patch of the word's store, for the window of `length` bytes at the address `base`. Answers `Made`.
+
+    patch is a bytearray, changed in place: when the verdict is DONE its first bytes, as many as the answer's length, are the patch.
+    Bytes behind it, and all of them in a refusal, are as they came.
+
+    >>> machine = Machine(flags=Flags.SVE)  # nothing is active
+    >>> patch = bytearray(6)
+    >>> make_patch(machine, 0x1000, 0, 0xE4428001, patch)
+    Made(verdict=<Verdict.DONE: 0>, element=0, address=0, elements=0, bytes=0, length=4)
+    >>> patch
+    bytearray(b'PE\\x00\\x00\\x00\\x00')
+    >>> make_patch(machine, 0x1000, 0, 0xE4428001, bytearray(3)).verdict
+    <Verdict.NO_ROOM: 8>
+    """
+    lent = _machine(machine)
+    base, length, word = _number("base", base, 64), _number("length", length, 64), _number("word", word, 32)
+    string = _changed("patch", patch, z=machine.z, p=machine.p)
+    answer = _Answers()
+    verdict = Verdict(_library.starshackle_make_patch(*lent, base, length, word, *string, answer))
+    return Made(verdict, *answer)

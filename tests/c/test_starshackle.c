@@ -1,0 +1,668 @@
+/* The C interface: document 01's examples, every verdict with its detail, null pointers, lengths, and what a refusal leaves. */
+#include <inttypes.h>
+#include <stdio.h>
+#include <stdlib.h>
+#include <string.h>
+
+#include "starshackle.h"
+
+static unsigned long checks;
+
+static void fail(int line, const char *what)
+{
+    fprintf(stderr, "%s:%d: failed: %s\n", __FILE__, line, what);
+    exit(1);
+}
+
+static void check(int line, int holds, const char *what)
+{
+    checks++;
+    if (!holds)
+        fail(line, what);
+}
+
+#define CHECK(condition) check(__LINE__, (condition) != 0, #condition)
+
+/* ---- answers */
+
+static uint64_t answer[5];
+static uint64_t fields[8];
+
+static void show(const char *name, uint64_t number, const uint64_t *entries, size_t count)
+{
+    size_t i;
+    fprintf(stderr, "  %s: %" PRIu64 " with", name, number);
+    for (i = 0; i < count; i++)
+        fprintf(stderr, " %" PRIX64 "h", entries[i]);
+    fprintf(stderr, "\n");
+}
+
+static void expect(int line, const char *what, uint64_t number, const uint64_t *got, uint64_t number2, const uint64_t *wanted,
+                   size_t count)
+{
+    checks++;
+    if (number == number2 && memcmp(got, wanted, count * sizeof *got) == 0)
+        return;
+    show("answered", number, got, count);
+    show("expected", number2, wanted, count);
+    fail(line, what);
+}
+
+static void expect5(int line, const char *what, uint64_t number, uint64_t number2, uint64_t a, uint64_t b, uint64_t c, uint64_t d,
+                    uint64_t e)
+{
+    uint64_t wanted[5];
+    wanted[0] = a, wanted[1] = b, wanted[2] = c, wanted[3] = d, wanted[4] = e;
+    expect(line, what, number, answer, number2, wanted, 5);
+    memset(answer, 0x5A, sizeof answer); /* so that the next call has to write all entries */
+}
+
+/* A call that answers into `answer`, its verdict and all five entries. */
+#define ANSWERS(call, number, a, b, c, d, e) expect5(__LINE__, #call, call, number, a, b, c, d, e)
+#define REFUSED(call, number) ANSWERS(call, number, 0, 0, 0, 0, 0)
+
+/* ---- a machine and its window, which has bytes before and behind it that no call may touch */
+
+enum { MOST_VB = 256, FENCE = 64, MOST_MEMORY = STARSHACKLE_LARGEST_WINDOW + 1, MOST_PATCH = STARSHACKLE_LARGEST_PATCH };
+
+static struct {
+    size_t vb;
+    uint64_t flags, x[31], sp;
+    uint8_t z[32 * MOST_VB], p[2 * MOST_VB];
+    size_t z_len, p_len;
+    uint64_t base;
+    size_t length;
+} m;
+
+static uint8_t memory_area[FENCE + MOST_MEMORY + FENCE], memory_before[FENCE + MOST_MEMORY + FENCE];
+static uint8_t patch_area[FENCE + MOST_PATCH + FENCE], patch_before[FENCE + MOST_PATCH + FENCE];
+static uint8_t *const memory = memory_area + FENCE;
+static uint8_t *const patch = patch_area + FENCE;
+
+/* A filling that differs from byte to byte. */
+static void fill(void)
+{
+    size_t i;
+    for (i = 0; i < sizeof memory_area; i++)
+        memory_area[i] = (uint8_t)(i * 7 + i / 256 + 1);
+    for (i = 0; i < sizeof patch_area; i++)
+        patch_area[i] = (uint8_t)(i * 11 + i / 256 + 3);
+    memcpy(memory_before, memory_area, sizeof memory_area);
+    memcpy(patch_before, patch_area, sizeof patch_area);
+}
+
+static int untouched(void)
+{
+    return memcmp(memory_before, memory_area, sizeof memory_area) == 0 && memcmp(patch_before, patch_area, sizeof patch_area) == 0;
+}
+
+/* What is expected, put where it is expected, so that `untouched` compares the rest too. */
+static void expect_memory(size_t place, uint8_t byte)
+{
+    memory_before[FENCE + place] = byte;
+}
+
+static void expect_patch(const uint8_t *bytes, size_t length)
+{
+    memcpy(patch_before + FENCE, bytes, length);
+}
+
+/* Zeros, with a window of `length` bytes at `base`. */
+static void machine(size_t vb, uint64_t flags, uint64_t base, size_t length)
+{
+    memset(&m, 0, sizeof m);
+    m.vb = vb;
+    m.flags = flags;
+    m.z_len = 32 * vb;
+    m.p_len = 2 * vb;
+    m.base = base;
+    m.length = length;
+    fill();
+}
+
+/* Element e, of `bytes` bytes, of register r. */
+static void set_z(size_t r, size_t e, size_t bytes, uint64_t value)
+{
+    size_t i;
+    for (i = 0; i < bytes; i++)
+        m.z[r * m.vb + e * bytes + i] = (uint8_t)(value >> (8 * i));
+}
+
+static void set_counter(size_t g, unsigned value)
+{
+    m.p[g * (m.vb / 8)] = (uint8_t)value;
+    m.p[g * (m.vb / 8) + 1] = (uint8_t)(value >> 8);
+}
+
+static void all_active(void)
+{
+    memset(m.p, 0xFF, sizeof m.p);
+}
+
+static uint64_t run(uint32_t word)
+{
+    return starshackle_run(m.vb, m.flags, m.x, m.sp, m.z, m.z_len, m.p, m.p_len, m.base, memory, m.length, word, answer);
+}
+
+static uint64_t make(uint32_t word, size_t room)
+{
+    return starshackle_make_patch(m.vb, m.flags, m.x, m.sp, m.z, m.z_len, m.p, m.p_len, m.base, m.length, word, patch, room, answer);
+}
+
+static uint64_t element(uint32_t word, uint64_t e)
+{
+    return starshackle_element(m.vb, m.x, m.sp, m.z, m.z_len, m.p, m.p_len, word, e, answer);
+}
+
+static uint64_t apply(const uint8_t *bytes, size_t length)
+{
+    return starshackle_apply(m.base, memory, m.length, bytes, length, answer);
+}
+
+/* ---- words and decoded stores */
+
+static void word_is(int line, uint32_t word, uint64_t class, uint64_t index, uint64_t extension, uint64_t predicate, uint64_t base,
+                    uint64_t reg, int64_t multiple)
+{
+    uint64_t wanted[8], given[8];
+    wanted[STARSHACKLE_FIELD_CLASS] = class;
+    wanted[STARSHACKLE_FIELD_INDEX] = index;
+    wanted[STARSHACKLE_FIELD_EXTENSION] = extension;
+    wanted[STARSHACKLE_FIELD_PREDICATE] = predicate;
+    wanted[STARSHACKLE_FIELD_BASE] = base;
+    wanted[STARSHACKLE_FIELD_REGISTER] = reg;
+    wanted[STARSHACKLE_FIELD_MULTIPLE] = (uint64_t)multiple;
+    wanted[STARSHACKLE_FIELD_ZERO] = 0;
+    memset(fields, 0x5A, sizeof fields);
+    expect(line, "decoding", starshackle_decode(word, fields), fields, STARSHACKLE_DONE, wanted, 8);
+    memcpy(given, wanted, sizeof given);
+    expect5(line, "encoding", starshackle_encode(given, answer), STARSHACKLE_DONE, 0, 0, 0, 0, word);
+    check(line, memcmp(given, wanted, sizeof given) == 0, "encoding only reads its fields");
+}
+
+#define WORD_IS(word, class, index, extension, predicate, base, reg, multiple) \
+    word_is(__LINE__, word, class, index, extension, predicate, base, reg, multiple)
+
+static void undefined(int line, uint32_t word)
+{
+    static const uint64_t zeros[8];
+    memset(fields, 0x5A, sizeof fields);
+    expect(line, "decoding", starshackle_decode(word, fields), fields, STARSHACKLE_UNDEFINED, zeros, 8);
+}
+
+/* The fields of A16F6000 with one entry changed. */
+static uint64_t encode_with(size_t entry, uint64_t value)
+{
+    uint64_t given[8] = {10, 0, 0, 0, 0, 0, 0, 0};
+    given[STARSHACKLE_FIELD_MULTIPLE] = (uint64_t)-2;
+    given[entry] = value;
+    return starshackle_encode(given, answer);
+}
+
+static void words(void)
+{
+    WORD_IS(0xE5A08000, STARSHACKLE_CLASS_ST1D_32_UNPACKED_SCALED, 0, STARSHACKLE_EXTENSION_UXTW, 0, 0, 0, 0);
+    WORD_IS(0xE5A0C000, STARSHACKLE_CLASS_ST1D_32_UNPACKED_SCALED, 0, STARSHACKLE_EXTENSION_SXTW, 0, 0, 0, 0);
+    WORD_IS(0xE5808000, STARSHACKLE_CLASS_ST1D_32_UNPACKED_UNSCALED, 0, STARSHACKLE_EXTENSION_UXTW, 0, 0, 0, 0);
+    WORD_IS(0xE5A0A000, STARSHACKLE_CLASS_ST1D_64_SCALED, 0, STARSHACKLE_EXTENSION_NONE, 0, 0, 0, 0);
+    WORD_IS(0xE580A000, STARSHACKLE_CLASS_ST1D_64_UNSCALED, 0, 0, 0, 0, 0, 0);
+    WORD_IS(0xE4008000, STARSHACKLE_CLASS_ST1B_32_UNPACKED, 0, 1, 0, 0, 0, 0);
+    WORD_IS(0xE4408000, STARSHACKLE_CLASS_ST1B_32, 0, 1, 0, 0, 0, 0);
+    WORD_IS(0xE400A000, STARSHACKLE_CLASS_ST1B_64, 0, 0, 0, 0, 0, 0);
+    WORD_IS(0xA1206000, STARSHACKLE_CLASS_ST1D_STRIDED_TWO_SCALAR, 0, 0, 0, 0, 0, 0);
+    WORD_IS(0xA120E000, STARSHACKLE_CLASS_ST1D_STRIDED_FOUR_SCALAR, 0, 0, 0, 0, 0, 0);
+    WORD_IS(0xA1606000, STARSHACKLE_CLASS_ST1D_STRIDED_TWO_IMMEDIATE, 0, 0, 0, 0, 0, 0);
+    WORD_IS(0xA160E000, STARSHACKLE_CLASS_ST1D_STRIDED_FOUR_IMMEDIATE, 0, 0, 0, 0, 0, 0);
+    WORD_IS(0xE4202000, STARSHACKLE_CLASS_ST1Q, 0, 0, 0, 0, 0, 0);
+    /* every field at its largest, and all of them different where they can be */
+    WORD_IS(0xE5BFDFFF, 1, 31, 2, 7, 31, 31, 0);
+    WORD_IS(0xE44380C5, 6, 3, 1, 0, 6, 5, 0);
+    WORD_IS(0xA12A6C97, 8, 10, 0, 3, 4, 23, 0);
+    WORD_IS(0xA13FFFF3, 9, 31, 0, 7, 31, 19, 0);
+    WORD_IS(0xE4363D22, 12, 22, 0, 7, 9, 2, 0);
+    /* document 01's cases */
+    WORD_IS(0xA16F6000, 10, 0, 0, 0, 0, 0, -2);
+    WORD_IS(0xA168E000, 11, 0, 0, 0, 0, 0, -32);
+    WORD_IS(0xA167E000, 11, 0, 0, 0, 0, 0, 28);
+    WORD_IS(0xA1206010, 8, 0, 0, 0, 0, 16, 0);
+    undefined(__LINE__, 0xA120E004);
+    undefined(__LINE__, 0xA1206008);
+    undefined(__LINE__, 0xE4208000);
+    undefined(__LINE__, 0);
+    undefined(__LINE__, 0xFFFFFFFF);
+
+    ANSWERS(encode_with(0, 10), STARSHACKLE_DONE, 0, 0, 0, 0, 0xA16F6000);
+    REFUSED(encode_with(0, 0), STARSHACKLE_FIELDS);
+    REFUSED(encode_with(0, 13), STARSHACKLE_FIELDS);
+    REFUSED(encode_with(0, UINT64_C(10) + 256), STARSHACKLE_FIELDS);
+    REFUSED(encode_with(0, (UINT64_C(1) << 32) + 10), STARSHACKLE_FIELDS);
+    REFUSED(encode_with(1, 1), STARSHACKLE_FIELDS); /* a field that the class lacks */
+    REFUSED(encode_with(2, 1), STARSHACKLE_FIELDS); /* an extension where there is none */
+    REFUSED(encode_with(3, 8), STARSHACKLE_FIELDS);
+    REFUSED(encode_with(4, 32), STARSHACKLE_FIELDS);
+    REFUSED(encode_with(4, UINT64_C(1) << 32), STARSHACKLE_FIELDS);
+    REFUSED(encode_with(5, 8), STARSHACKLE_FIELDS);  /* a first register that the class can't name */
+    REFUSED(encode_with(6, 1), STARSHACKLE_FIELDS);  /* a multiple that it can't name */
+    REFUSED(encode_with(6, 16), STARSHACKLE_FIELDS);
+    REFUSED(encode_with(7, 1), STARSHACKLE_FIELDS);
+    {
+        static const uint64_t none[8] = {1, 0, 0, 0, 0, 0, 0, 0}, third[8] = {1, 0, 3, 0, 0, 0, 0, 0};
+        REFUSED(starshackle_encode(none, answer), STARSHACKLE_FIELDS); /* no extension where there is one */
+        REFUSED(starshackle_encode(third, answer), STARSHACKLE_FIELDS);
+    }
+}
+
+/* ---- the whole example: class 6, VB 16, base 1000h, offsets 0, 1, 1, 5, bytes A1 A2 A3 A4, all active */
+
+static const uint32_t SCATTER = 0xE4428001; /* st1b { z1.s }, p0, [x0, z2.s, uxtw] */
+
+static const uint8_t EXAMPLE[31] = {
+    0x50, 0x52, 0x00, 0x10, 0, 0, 0, 0, 0, 0, 2, 0, 0xA1, 0xA3, /* run 0 */
+    0x50, 0x52, 0x05, 0x10, 0, 0, 0, 0, 0, 0, 1, 0, 0xA4,       /* run 1 */
+    0x50, 0x45, 2, 0};
+
+static void scatter_machine(const uint64_t *offsets, const uint64_t *bytes)
+{
+    size_t e;
+    machine(16, STARSHACKLE_FLAG_SVE, 0x1000, 8);
+    m.x[0] = 0x1000;
+    all_active();
+    for (e = 0; e < 4; e++) {
+        set_z(1, e, 4, bytes[e]);
+        set_z(2, e, 4, offsets[e]);
+    }
+}
+
+static const uint64_t OFFSETS[4] = {0, 1, 1, 5}, BYTES[4] = {0xA1, 0xA2, 0xA3, 0xA4};
+static const uint64_t OFFSETS2[4] = {1, 0, 5, 5}, BYTES2[4] = {0xA3, 0xA1, 0x00, 0xA4};
+
+static void expect_example(void)
+{
+    expect_memory(0, 0xA1);
+    expect_memory(1, 0xA3);
+    expect_memory(5, 0xA4);
+}
+
+static void whole_example(const uint64_t *offsets, const uint64_t *bytes)
+{
+    size_t e;
+    scatter_machine(offsets, bytes);
+    ANSWERS(run(SCATTER), STARSHACKLE_DONE, 0, 0, 4, 4, 0);
+    expect_example();
+    CHECK(untouched());
+
+    scatter_machine(offsets, bytes);
+    ANSWERS(make(SCATTER, MOST_PATCH), STARSHACKLE_DONE, 0, 0, 4, 4, sizeof EXAMPLE);
+    expect_patch(EXAMPLE, sizeof EXAMPLE);
+    CHECK(untouched());
+    ANSWERS(starshackle_judge(patch, sizeof EXAMPLE, answer), STARSHACKLE_DONE, 0, 0, 2, 3, 0);
+    CHECK(untouched());
+    ANSWERS(apply(patch, sizeof EXAMPLE), STARSHACKLE_DONE, 0, 0, 2, 3, 0);
+    expect_example();
+    CHECK(untouched());
+
+    for (e = 0; e < 4; e++)
+        ANSWERS(element(SCATTER, e), STARSHACKLE_DONE, 1, 0x1000 + offsets[e], 16 + 4 * e, 1, 4);
+    ANSWERS(element(SCATTER, 4), STARSHACKLE_DONE, 0, 0, 0, 0, 4);
+    ANSWERS(element(SCATTER, UINT64_MAX), STARSHACKLE_DONE, 0, 0, 0, 0, 4);
+    m.p[0] = 0xFF & ~0x10; /* element 1's bit; the bits above an element's first mean nothing */
+    m.p[1] = 0x11;
+    ANSWERS(element(SCATTER, 1), STARSHACKLE_DONE, 0, 0x1000 + offsets[1], 16 + 4, 1, 4);
+    ANSWERS(element(SCATTER, 3), STARSHACKLE_DONE, 1, 0x1000 + offsets[3], 16 + 12, 1, 4);
+    ANSWERS(run(SCATTER), STARSHACKLE_DONE, 0, 0, 3, 3, 0);
+}
+
+static void example(void)
+{
+    WORD_IS(SCATTER, 6, 2, 1, 0, 0, 1, 0);
+    whole_example(OFFSETS, BYTES);
+    whole_example(OFFSETS2, BYTES2);
+}
+
+/* The patch buffer: too short, exact, longer. */
+static void rooms(void)
+{
+    size_t room;
+    scatter_machine(OFFSETS, BYTES);
+    for (room = 0; room < sizeof EXAMPLE; room++)
+        REFUSED(make(SCATTER, room), STARSHACKLE_NO_ROOM);
+    CHECK(untouched());
+    for (room = sizeof EXAMPLE; room < sizeof EXAMPLE + 3; room++) {
+        fill();
+        ANSWERS(make(SCATTER, room), STARSHACKLE_DONE, 0, 0, 4, 4, sizeof EXAMPLE);
+        expect_patch(EXAMPLE, sizeof EXAMPLE);
+        CHECK(untouched());
+    }
+}
+
+/* ---- strided and quadword stores */
+
+static void strided(void)
+{
+    /* A1206010: registers 16 and 24; X1 is the index */
+    const uint32_t word = 0xA1216010;
+    static const uint8_t wanted[4 + 12 + 24] = {
+        0x50, 0x52, 0x10, 0x20, 0, 0, 0, 0, 0, 0, 24, 0, 0x11, 0x11, 0x11, 0x11, 0x11, 0x11, 0x11, 0x11,
+        0x22, 0x22, 0x22, 0x22, 0x22, 0x22, 0x22, 0x22, 0x33, 0x33, 0x33, 0x33, 0x33, 0x33, 0x33, 0x33, 0x50, 0x45, 1, 0};
+    size_t i;
+    WORD_IS(word, 8, 1, 0, 0, 0, 16, 0);
+    machine(16, STARSHACKLE_FLAG_SME2 | STARSHACKLE_FLAG_STREAMING, 0x2010, 24);
+    m.x[0] = 0x2000;
+    m.x[1] = 2;
+    set_counter(8, 0x0038); /* three elements of 64 bits */
+    set_z(16, 0, 8, UINT64_C(0x1111111111111111));
+    set_z(16, 1, 8, UINT64_C(0x2222222222222222));
+    set_z(24, 0, 8, UINT64_C(0x3333333333333333));
+    set_z(24, 1, 8, UINT64_C(0x4444444444444444));
+    ANSWERS(make(word, sizeof wanted - 1), STARSHACKLE_NO_ROOM, 0, 0, 0, 0, 0);
+    ANSWERS(make(word, sizeof wanted), STARSHACKLE_DONE, 0, 0, 3, 24, sizeof wanted);
+    expect_patch(wanted, sizeof wanted);
+    CHECK(untouched());
+    ANSWERS(run(word), STARSHACKLE_DONE, 0, 0, 3, 24, 0);
+    for (i = 0; i < 24; i++)
+        expect_memory(i, wanted[12 + i]);
+    CHECK(untouched());
+    ANSWERS(element(word, 2), STARSHACKLE_DONE, 1, 0x2020, 24 * 16, 8, 4);
+    ANSWERS(element(word, 3), STARSHACKLE_DONE, 0, 0x2028, 24 * 16 + 8, 8, 4);
+
+    /* document 01: A16F6000 with base 1000h starts at 0FE0h */
+    m.x[0] = 0x1000;
+    ANSWERS(element(0xA16F6000, 0), STARSHACKLE_DONE, 1, 0x0FE0, 0, 8, 4);
+    set_counter(8, 0x8038);
+    for (i = 0; i < 4; i++)
+        ANSWERS(element(0xA16F6000, i), STARSHACKLE_DONE, i == 3, 0x0FE0 + 8 * i, i / 2 * 8 * 16 + i % 2 * 8, 8, 4);
+    set_counter(8, 0x8000); /* nothing is active */
+    m.length = 0;
+    ANSWERS(run(word), STARSHACKLE_DONE, 0, 0, 0, 0, 0);
+}
+
+static void quadword(void)
+{
+    const uint32_t word = 0xE4232041; /* st1q { z1.q }, p0, [z2.d, x3] */
+    size_t i;
+    WORD_IS(word, 12, 3, 0, 0, 2, 1, 0);
+    machine(32, STARSHACKLE_FLAG_SVE2P1, 0x1000, 64);
+    m.x[3] = (uint64_t)-16; /* addresses wrap */
+    m.p[2] = 1;             /* element 1 alone, at bit 16 */
+    set_z(2, 0, 8, 0x9999);
+    set_z(2, 1, 8, 0x9999);
+    set_z(2, 2, 8, 0x1030);
+    set_z(2, 3, 8, 0x9999);
+    for (i = 0; i < 16; i++)
+        m.z[32 + 16 + i] = (uint8_t)(0xC0 + i);
+    ANSWERS(element(word, 0), STARSHACKLE_DONE, 0, 0x9989, 32, 16, 2);
+    ANSWERS(element(word, 1), STARSHACKLE_DONE, 1, 0x1020, 48, 16, 2);
+    ANSWERS(run(word), STARSHACKLE_DONE, 0, 0, 1, 16, 0);
+    for (i = 0; i < 16; i++)
+        expect_memory(0x20 + i, (uint8_t)(0xC0 + i));
+    CHECK(untouched());
+}
+
+/* No patch of a store is longer than STARSHACKLE_LARGEST_STORE_PATCH: four registers at VB 256 reach it. */
+static void largest(void)
+{
+    const uint32_t word = 0xA120E000;
+    size_t i;
+    machine(256, STARSHACKLE_FLAG_SME2 | STARSHACKLE_FLAG_STREAMING, 0, STARSHACKLE_LARGEST_WINDOW);
+    set_counter(8, 0x8008); /* all */
+    for (i = 0; i < sizeof m.z; i++)
+        m.z[i] = (uint8_t)(i / 8);
+    REFUSED(make(word, STARSHACKLE_LARGEST_STORE_PATCH - 1), STARSHACKLE_NO_ROOM);
+    CHECK(untouched());
+    ANSWERS(make(word, STARSHACKLE_LARGEST_STORE_PATCH), STARSHACKLE_DONE, 0, 0, 128, 1024, STARSHACKLE_LARGEST_STORE_PATCH);
+    ANSWERS(starshackle_judge(patch, STARSHACKLE_LARGEST_STORE_PATCH, answer), STARSHACKLE_DONE, 0, 0, 1, 1024, 0);
+    for (i = 0; i < 1024; i++)
+        CHECK(patch[12 + i] == m.z[i / 256 * 4 * 256 + i % 256]);
+    ANSWERS(apply(patch, STARSHACKLE_LARGEST_STORE_PATCH), STARSHACKLE_DONE, 0, 0, 1, 1024, 0);
+    CHECK(memcmp(memory, patch + 12, 1024) == 0);
+    memcpy(memory_before, memory_area, sizeof memory_area);
+    memcpy(patch_before, patch_area, sizeof patch_area);
+    ANSWERS(run(word), STARSHACKLE_DONE, 0, 0, 128, 1024, 0);
+    CHECK(untouched()); /* running leaves what applying has left */
+}
+
+/* ---- verdicts */
+
+/* Running and making a patch are refused alike. */
+static void both_refused(int line, uint32_t word, uint64_t number, uint64_t e, uint64_t address)
+{
+    expect5(line, "running", run(word), number, e, address, 0, 0, 0);
+    expect5(line, "making", make(word, MOST_PATCH), number, e, address, 0, 0, 0);
+    check(line, untouched(), "memory and patch are as they came");
+}
+
+#define BOTH_REFUSED(word, number, e, address) both_refused(__LINE__, word, number, e, address)
+
+static void both_done(int line, uint32_t word, uint64_t elements, uint64_t bytes, uint64_t length)
+{
+    expect5(line, "running", run(word), STARSHACKLE_DONE, 0, 0, elements, bytes, 0);
+    expect5(line, "making", make(word, MOST_PATCH), STARSHACKLE_DONE, 0, 0, elements, bytes, length);
+    fill();
+}
+
+#define BOTH_DONE(word, elements, bytes, length) both_done(__LINE__, word, elements, bytes, length)
+
+static void refusals(void)
+{
+    static const size_t lengths[] = {0, 1, 15, 17, 24, 48, 255, 257, 512, SIZE_MAX};
+    const uint64_t streaming = STARSHACKLE_FLAG_STREAMING;
+    size_t i;
+
+    scatter_machine(OFFSETS, BYTES);
+    for (i = 0; i < sizeof lengths / sizeof *lengths; i++) {
+        m.vb = lengths[i];
+        BOTH_REFUSED(SCATTER, STARSHACKLE_LENGTH, 0, 0);
+        REFUSED(element(SCATTER, 0), STARSHACKLE_LENGTH);
+    }
+    m.vb = 32; /* a length, but not that of the buffers */
+    BOTH_REFUSED(SCATTER, STARSHACKLE_REGISTERS, 0, 0);
+    m.vb = 16;
+    for (i = 0; i < 4; i++) {
+        m.z_len = 32 * 16 - (i == 0) + (i == 1);
+        m.p_len = 2 * 16 - (i == 2) + (i == 3);
+        BOTH_REFUSED(SCATTER, STARSHACKLE_REGISTERS, 0, 0);
+        REFUSED(element(SCATTER, 0), STARSHACKLE_REGISTERS);
+    }
+    m.z_len = 32 * 16;
+    m.p_len = 2 * 16;
+    m.length = STARSHACKLE_LARGEST_WINDOW + 1;
+    BOTH_REFUSED(SCATTER, STARSHACKLE_WINDOW, 0, 0);
+    REFUSED(apply(EXAMPLE, sizeof EXAMPLE), STARSHACKLE_WINDOW);
+    REFUSED(apply(EXAMPLE, 1), STARSHACKLE_WINDOW); /* before what is said of the patch */
+    m.base = UINT64_C(0xFFFFFFFFFFFFFFF0);
+    m.length = 17;
+    BOTH_REFUSED(SCATTER, STARSHACKLE_WINDOW, 0, 0);
+    REFUSED(apply(EXAMPLE, sizeof EXAMPLE), STARSHACKLE_WINDOW);
+    REFUSED(starshackle_make_patch(16, m.flags, m.x, 0, m.z, m.z_len, m.p, m.p_len, 1, UINT64_MAX, SCATTER, patch, MOST_PATCH, answer),
+            STARSHACKLE_WINDOW);
+    m.length = 16;
+    BOTH_REFUSED(SCATTER, STARSHACKLE_FAULT, 0, 0x1000);
+    m.x[0] = UINT64_C(0xFFFFFFFFFFFFFFFA);
+    BOTH_DONE(SCATTER, 4, 4, sizeof EXAMPLE); /* offset 5 is the last address */
+    m.x[0]++;
+    BOTH_REFUSED(SCATTER, STARSHACKLE_FAULT, 3, 0); /* and here the first */
+
+    scatter_machine(OFFSETS, BYTES);
+    REFUSED(element(0xE4208000, 0), STARSHACKLE_UNDEFINED);
+    BOTH_REFUSED(0xE4208000, STARSHACKLE_UNDEFINED, 0, 0);
+    m.flags = ~UINT64_C(0) ^ STARSHACKLE_FLAG_SVE;
+    BOTH_REFUSED(SCATTER, STARSHACKLE_UNDEFINED, 0, 0);
+    ANSWERS(element(SCATTER, 0), STARSHACKLE_DONE, 1, 0x1000, 16, 1, 4); /* looks at no flag */
+    m.flags = ~UINT64_C(0) ^ STARSHACKLE_FLAG_SME2;
+    BOTH_REFUSED(0xA1206000, STARSHACKLE_UNDEFINED, 0, 0);
+    BOTH_DONE(SCATTER, 4, 4, sizeof EXAMPLE);
+    m.flags = ~UINT64_C(0) ^ STARSHACKLE_FLAG_SVE2P1;
+    BOTH_REFUSED(0xE4202000, STARSHACKLE_UNDEFINED, 0, 0);
+    m.flags = STARSHACKLE_FLAG_SVE | streaming;
+    BOTH_REFUSED(SCATTER, STARSHACKLE_ILLEGAL, 0, 0);
+    m.flags = STARSHACKLE_FLAG_SVE2P1 | streaming;
+    BOTH_REFUSED(0xE4202000, STARSHACKLE_ILLEGAL, 0, 0);
+    m.flags = STARSHACKLE_FLAG_SVE | streaming | STARSHACKLE_FLAG_FA64;
+    BOTH_DONE(SCATTER, 4, 4, sizeof EXAMPLE);
+    m.flags = STARSHACKLE_FLAG_SME2 | STARSHACKLE_FLAG_FA64;
+    BOTH_REFUSED(0xA1206000, STARSHACKLE_ILLEGAL, 0, 0);
+
+    /* the same store from SP */
+    scatter_machine(OFFSETS, BYTES);
+    m.sp = 0x0FF8;
+    m.base = 0x0FF8;
+    m.flags = STARSHACKLE_FLAG_SVE | STARSHACKLE_FLAG_SP_CHECK_NONE_ACTIVE;
+    BOTH_DONE(SCATTER | 31 << 5, 4, 4, sizeof EXAMPLE);
+    m.flags = STARSHACKLE_FLAG_SVE | STARSHACKLE_FLAG_SP_CHECK;
+    BOTH_REFUSED(SCATTER | 31 << 5, STARSHACKLE_STACK, 0, 0);
+    memset(m.p, 0, sizeof m.p);
+    BOTH_DONE(SCATTER | 31 << 5, 0, 0, 4);
+    m.flags |= STARSHACKLE_FLAG_SP_CHECK_NONE_ACTIVE;
+    BOTH_REFUSED(SCATTER | 31 << 5, STARSHACKLE_STACK, 0, 0);
+    BOTH_DONE(SCATTER, 0, 0, 4);
+    m.sp = 0x1000;
+    BOTH_DONE(SCATTER | 31 << 5, 0, 0, 4);
+
+    /* the lowest active element outside the window; nothing is written, though others are inside */
+    scatter_machine(OFFSETS, BYTES);
+    m.length = 5;
+    BOTH_REFUSED(SCATTER, STARSHACKLE_FAULT, 3, 0x1005);
+    m.base = 0x1001;
+    BOTH_REFUSED(SCATTER, STARSHACKLE_FAULT, 0, 0x1000);
+    m.length = 0;
+    BOTH_REFUSED(SCATTER, STARSHACKLE_FAULT, 0, 0x1000);
+    ANSWERS(make(SCATTER, 0), STARSHACKLE_FAULT, 0, 0x1000, 0, 0, 0); /* before what is said of the room */
+    CHECK(untouched());
+}
+
+/* ---- patches */
+
+/* The example with one byte changed. */
+static const uint8_t *changed(size_t place, uint8_t byte)
+{
+    static uint8_t bytes[sizeof EXAMPLE];
+    memcpy(bytes, EXAMPLE, sizeof EXAMPLE);
+    bytes[place] = byte;
+    return bytes;
+}
+
+static void bad_patch(int line, const uint8_t *bytes, size_t length, uint64_t runs, uint64_t offset)
+{
+    expect5(line, "judging", starshackle_judge(bytes, length, answer), STARSHACKLE_BAD_PATCH, runs, offset, 0, 0, 0);
+    expect5(line, "applying", apply(bytes, length), STARSHACKLE_BAD_PATCH, 0, 0, 0, 0, 0);
+    check(line, untouched(), "memory is as it came");
+}
+
+#define BAD_PATCH(bytes, length, runs, offset) bad_patch(__LINE__, bytes, length, runs, offset)
+
+static void patches(void)
+{
+    static const uint8_t EMPTY[4] = {0x50, 0x45, 0, 0};
+    static const uint8_t TOP[17] = {0x50, 0x52, 0xFF, 0xFF, 0xFF, 0xFF, 0xFF, 0xFF, 0xFF, 0xFF, 1, 0, 0x77, 0x50, 0x45, 1, 0};
+    static const uint8_t PAST[18] = {0x50, 0x52, 0xFF, 0xFF, 0xFF, 0xFF, 0xFF, 0xFF, 0xFF, 0xFF, 2, 0, 0x77, 0x78, 0x50, 0x45, 1, 0};
+    uint8_t longer[sizeof EXAMPLE + 1];
+    size_t length, i;
+
+    machine(16, 0, 0x1000, 8);
+    for (length = 0; length < sizeof EXAMPLE; length++)
+        BAD_PATCH(EXAMPLE, length, (length >= 14) + (length >= 27), length < 14 ? 0 : length < 27 ? 14 : 27);
+    memcpy(longer, EXAMPLE, sizeof EXAMPLE);
+    longer[sizeof EXAMPLE] = 0;
+    BAD_PATCH(longer, sizeof longer, 2, 27);
+    BAD_PATCH(changed(0, 0x51), sizeof EXAMPLE, 0, 0);
+    BAD_PATCH(changed(10, 0), sizeof EXAMPLE, 0, 0);     /* an empty run */
+    BAD_PATCH(changed(16, 0x02), sizeof EXAMPLE, 1, 14); /* no address between the runs */
+    BAD_PATCH(changed(17, 0x0F), sizeof EXAMPLE, 1, 14); /* starts descend */
+    BAD_PATCH(changed(29, 3), sizeof EXAMPLE, 2, 27);    /* the number of runs */
+    BAD_PATCH(PAST, sizeof PAST, 0, 0);
+
+    ANSWERS(starshackle_judge(EMPTY, sizeof EMPTY, answer), STARSHACKLE_DONE, 0, 0, 0, 0, 0);
+    ANSWERS(apply(EMPTY, sizeof EMPTY), STARSHACKLE_DONE, 0, 0, 0, 0, 0);
+    CHECK(untouched());
+
+    m.length = 5;
+    ANSWERS(apply(EXAMPLE, sizeof EXAMPLE), STARSHACKLE_OUTSIDE, 1, 0x1005, 0, 0, 0);
+    m.base = 0x1001;
+    ANSWERS(apply(EXAMPLE, sizeof EXAMPLE), STARSHACKLE_OUTSIDE, 0, 0x1000, 0, 0, 0);
+    m.length = 0;
+    ANSWERS(apply(TOP, sizeof TOP), STARSHACKLE_OUTSIDE, 0, UINT64_MAX, 0, 0, 0);
+    CHECK(untouched());
+    m.base = UINT64_MAX;
+    m.length = 1;
+    ANSWERS(apply(TOP, sizeof TOP), STARSHACKLE_DONE, 0, 0, 1, 1, 0);
+    expect_memory(0, 0x77);
+    CHECK(untouched());
+
+    /* the largest: 64 runs of 16 bytes, at every 32nd address from 1000h on */
+    machine(16, 0, 0x1000, 64 * 32);
+    memset(patch, 0, MOST_PATCH);
+    for (i = 0; i < 64; i++) {
+        uint8_t *run_at = patch + 28 * i;
+        size_t start = 0x1000 + 32 * i, k;
+        run_at[0] = 0x50, run_at[1] = 0x52, run_at[2] = (uint8_t)start, run_at[3] = (uint8_t)(start >> 8), run_at[10] = 16;
+        for (k = 0; k < 16; k++) {
+            run_at[12 + k] = (uint8_t)(i + 3 * k);
+            expect_memory(32 * i + k, (uint8_t)(i + 3 * k));
+        }
+    }
+    patch[28 * 64] = 0x50, patch[28 * 64 + 1] = 0x45, patch[28 * 64 + 2] = 64;
+    expect_patch(patch, MOST_PATCH);
+    ANSWERS(starshackle_judge(patch, MOST_PATCH, answer), STARSHACKLE_DONE, 0, 0, 64, 1024, 0);
+    ANSWERS(apply(patch, MOST_PATCH), STARSHACKLE_DONE, 0, 0, 64, 1024, 0);
+    CHECK(untouched());
+}
+
+/* ---- null pointers with length 0 */
+
+static void nulls(void)
+{
+    static const uint8_t EMPTY[4] = {0x50, 0x45, 0, 0};
+    const uint64_t sve = STARSHACKLE_FLAG_SVE;
+    int active;
+
+    scatter_machine(OFFSETS, BYTES);
+    REFUSED(starshackle_run(16, sve, m.x, 0, NULL, 0, m.p, 32, 0x1000, memory, 8, SCATTER, answer), STARSHACKLE_REGISTERS);
+    REFUSED(starshackle_run(16, sve, m.x, 0, m.z, 512, NULL, 0, 0x1000, memory, 8, SCATTER, answer), STARSHACKLE_REGISTERS);
+    REFUSED(starshackle_run(16, sve, m.x, 0, NULL, 0, NULL, 0, 0x1000, NULL, 0, SCATTER, answer), STARSHACKLE_REGISTERS);
+    REFUSED(starshackle_run(0, sve, m.x, 0, NULL, 0, NULL, 0, 0x1000, NULL, 0, SCATTER, answer), STARSHACKLE_LENGTH);
+    REFUSED(starshackle_element(16, m.x, 0, NULL, 0, m.p, 32, SCATTER, 0, answer), STARSHACKLE_REGISTERS);
+    REFUSED(starshackle_element(16, m.x, 0, m.z, 512, NULL, 0, SCATTER, 0, answer), STARSHACKLE_REGISTERS);
+    REFUSED(starshackle_element(0, m.x, 0, NULL, 0, NULL, 0, SCATTER, 0, answer), STARSHACKLE_LENGTH);
+    REFUSED(starshackle_make_patch(16, sve, m.x, 0, NULL, 0, m.p, 32, 0x1000, 8, SCATTER, patch, 31, answer), STARSHACKLE_REGISTERS);
+    REFUSED(starshackle_make_patch(16, sve, m.x, 0, m.z, 512, NULL, 0, 0x1000, 8, SCATTER, patch, 31, answer), STARSHACKLE_REGISTERS);
+    REFUSED(starshackle_make_patch(0, sve, m.x, 0, NULL, 0, NULL, 0, 0x1000, 8, SCATTER, NULL, 0, answer), STARSHACKLE_LENGTH);
+
+    /* with elements active, and with none */
+    for (active = 1; active >= 0; active--) {
+        memset(m.p, active ? 0xFF : 0, sizeof m.p);
+        REFUSED(starshackle_make_patch(16, sve, m.x, 0, m.z, 512, m.p, 32, 0x1000, 8, SCATTER, NULL, 0, answer), STARSHACKLE_NO_ROOM);
+        if (active)
+            ANSWERS(starshackle_run(16, sve, m.x, 0, m.z, 512, m.p, 32, 0x1000, NULL, 0, SCATTER, answer), STARSHACKLE_FAULT, 0,
+                    0x1000, 0, 0, 0);
+        else
+            ANSWERS(starshackle_run(16, sve, m.x, 0, m.z, 512, m.p, 32, 0x1000, NULL, 0, SCATTER, answer), STARSHACKLE_DONE, 0, 0, 0,
+                    0, 0);
+    }
+    ANSWERS(starshackle_make_patch(16, sve, m.x, 0, m.z, 512, m.p, 32, 0x1000, 0, SCATTER, patch, 4, answer), STARSHACKLE_DONE, 0, 0,
+            0, 0, 4);
+    expect_patch(EMPTY, sizeof EMPTY);
+    CHECK(untouched());
+
+    ANSWERS(starshackle_judge(NULL, 0, answer), STARSHACKLE_BAD_PATCH, 0, 0, 0, 0, 0);
+    REFUSED(starshackle_apply(0x1000, memory, 8, NULL, 0, answer), STARSHACKLE_BAD_PATCH);
+    REFUSED(starshackle_apply(0x1000, NULL, 0, NULL, 0, answer), STARSHACKLE_BAD_PATCH);
+    ANSWERS(starshackle_apply(UINT64_MAX, NULL, 0, EMPTY, sizeof EMPTY, answer), STARSHACKLE_DONE, 0, 0, 0, 0, 0);
+    ANSWERS(starshackle_apply(0x1000, NULL, 0, EXAMPLE, sizeof EXAMPLE, answer), STARSHACKLE_OUTSIDE, 0, 0x1000, 0, 0, 0);
+    CHECK(untouched());
+}
+
+int main(void)
+{
+    memset(answer, 0x5A, sizeof answer);
+    words();
+    example();
+    rooms();
+    strided();
+    quadword();
+    largest();
+    refusals();
+    patches();
+    nulls();
+    printf("C interface: %lu checks passed\n", checks);
+    return 0;
+}

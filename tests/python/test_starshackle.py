@@ -1,0 +1,469 @@
+"""The Python module: document 01's examples, every verdict, wrong arguments, and random calls beside a dict of byte writes."""
+
+import ctypes
+import doctest
+import pathlib
+import random
+import re
+import struct
+import unittest
+
+import starshackle
+from starshackle import (LARGEST_PATCH, LARGEST_STORE_PATCH, LARGEST_WINDOW, LENGTHS, Applied, Decoded, Element, Encoded, Extension,
+                         Flags, Judged, Machine, Made, Ran, Store, Verdict, apply, decode, element, encode, judge, make_patch, run)
+
+SCATTER = 0xE4428001  # st1b { z1.s }, p0, [x0, z2.s, uxtw]
+STRIDED = 0xA1606000  # st1d { z0.d, z8.d }, pn8, [x0]
+QUADWORD = 0xE4232041  # st1q { z1.q }, p0, [z2.d, x3]
+EXAMPLE = bytes.fromhex("5052 0010000000000000 0200 a1a3 5052 0510000000000000 0100 a4 5045 0200")
+BASES = [0xE5A08000, 0xE5808000, 0xE5A0A000, 0xE580A000, 0xE4008000, 0xE4408000, 0xE400A000, 0xA1206000, 0xA120E000, 0xA1606000,
+         0xA160E000, 0xE4202000]
+
+
+def scatter(offsets=(0, 1, 1, 5), data=(0xA1, 0xA2, 0xA3, 0xA4)):
+    """The machine of document 01's whole example."""
+    machine = Machine(vb=16, flags=Flags.SVE)
+    machine.x[0] = 0x1000
+    machine.z[16:32] = struct.pack("<4I", *data)
+    machine.z[32:48] = struct.pack("<4I", *offsets)
+    machine.p[0:2] = b"\xff\xff"
+    return machine
+
+
+class Words(unittest.TestCase):
+    def test_stores(self):
+        cases = {
+            0xE5A0C3E0: Store(1, extension=Extension.SXTW, base=31),
+            0xE44380C5: Store(6, 3, Extension.UXTW, 0, 6, 5),
+            0xA12A6C97: Store(8, 10, 0, 3, 4, 23),
+            0xA1206010: Store(8, register=16),
+            0xA16F6000: Store(10, multiple=-2),
+            0xA168E000: Store(11, multiple=-32),
+            0xE4363D22: Store(12, 22, 0, 7, 9, 2),
+        }
+        for word, store in cases.items():
+            self.assertEqual(decode(word), Decoded(Verdict.DONE, store))
+            self.assertEqual(encode(store), Encoded(Verdict.DONE, word))
+        self.assertTrue(decode(0xE44380C5).done)
+
+    def test_classes(self):
+        for class_, word in enumerate(BASES, 1):
+            self.assertEqual(decode(word).store.class_, class_)
+
+    def test_undefined(self):
+        for word in [0xA120E004, 0xA1206008, 0xE4208000, 0, 0xFFFFFFFF]:
+            self.assertEqual(decode(word), Decoded(Verdict.UNDEFINED, None))
+
+    def test_refused_fields(self):
+        stores = [Store(0), Store(13), Store(2**32 + 3), Store(2**64 - 1), Store(3, index=32), Store(3, index=2**32),
+                  Store(3, extension=1), Store(1), Store(1, extension=3), Store(10, index=1), Store(10, register=8),
+                  Store(10, multiple=1), Store(10, multiple=16), Store(10, multiple=-2**63), Store(3, multiple=1)]
+        for store in stores:
+            self.assertEqual(encode(store), Encoded(Verdict.FIELDS, None), store)
+
+
+class Example(unittest.TestCase):
+    """The whole example, and its second form."""
+
+    MACHINES = [scatter(), scatter((1, 0, 5, 5), (0xA3, 0xA1, 0x00, 0xA4))]
+
+    def test_run(self):
+        for machine in self.MACHINES:
+            memory = bytearray(b"\x77" * 8)
+            self.assertEqual(run(machine, 0x1000, memory, SCATTER), Ran(Verdict.DONE, 0, 0, 4, 4))
+            self.assertEqual(memory, b"\xa1\xa3\x77\x77\x77\xa4\x77\x77")
+
+    def test_make_patch(self):
+        for machine in self.MACHINES:
+            for room in [31, 32, LARGEST_STORE_PATCH]:
+                patch = bytearray(b"\x77" * room)
+                self.assertEqual(make_patch(machine, 0x1000, 8, SCATTER, patch), Made(Verdict.DONE, 0, 0, 4, 4, 31))
+                self.assertEqual(patch, EXAMPLE + b"\x77" * (room - 31))
+
+    def test_patch(self):
+        self.assertEqual(judge(EXAMPLE), Judged(Verdict.DONE, 0, 0, 2, 3))
+        memory = bytearray(8)
+        self.assertEqual(apply(0x1000, memory, bytearray(EXAMPLE)), Applied(Verdict.DONE, 0, 0, 2, 3))
+        self.assertEqual(memory, b"\xa1\xa3\0\0\0\xa4\0\0")
+        memory.append(0)  # nothing holds on to it
+
+    def test_element(self):
+        machine = scatter()
+        machine.p[0] = 0x0F
+        for e, (active, offset) in enumerate([(True, 0), (False, 1), (True, 1), (True, 5)]):
+            self.assertEqual(element(machine, SCATTER, e), Element(Verdict.DONE, active, 0x1000 + offset, 16 + 4 * e, 1, 4))
+        for e in [4, 2**64 - 1]:
+            self.assertEqual(element(machine, SCATTER, e), Element(Verdict.DONE, False, 0, 0, 0, 4))
+
+
+class Refusals(unittest.TestCase):
+    """Every verdict, with its detail; what is lent stays as it came."""
+
+    def check(self, machine, word, verdict, detail=(0, 0), base=0x1000, length=8):
+        memory = bytearray(random.Random(length).randbytes(length))
+        patch = bytearray(b"\x77" * LARGEST_STORE_PATCH)
+        before = bytes(memory)
+        self.assertEqual(run(machine, base, memory, word), Ran(verdict, *detail, 0, 0))
+        self.assertEqual(make_patch(machine, base, length, word, patch), Made(verdict, *detail, 0, 0, 0))
+        self.assertEqual((memory, patch), (before, b"\x77" * LARGEST_STORE_PATCH))
+
+    def test_length(self):
+        for vb in [0, 15, 17, 512, 2**64 - 1]:
+            self.check(Machine(vb=vb), SCATTER, Verdict.LENGTH)
+            self.assertEqual(element(Machine(vb=vb), SCATTER, 0), Element(Verdict.LENGTH, False, 0, 0, 0, 0))
+
+    def test_registers(self):
+        for lent in [{"z": b""}, {"p": b""}, {"z": bytes(511)}, {"z": bytearray(513)}, {"p": bytes(31)}, {"p": bytes(33)}]:
+            self.check(Machine(**lent), SCATTER, Verdict.REGISTERS)
+            self.assertEqual(element(Machine(**lent), SCATTER, 0), Element(Verdict.REGISTERS, False, 0, 0, 0, 0))
+
+    def test_window(self):
+        for base, length in [(0, LARGEST_WINDOW + 1), (2**64 - 16, 17), (2**64 - 1, 2)]:
+            self.check(scatter(), SCATTER, Verdict.WINDOW, base=base, length=length)
+            self.assertEqual(apply(base, bytearray(length), EXAMPLE), Applied(Verdict.WINDOW, 0, 0, 0, 0))
+        self.assertEqual(make_patch(scatter(), 1, 2**64 - 1, SCATTER, bytearray()).verdict, Verdict.WINDOW)
+
+    def test_undefined(self):
+        every = (1 << 64) - 1
+        self.check(scatter(), 0xE4208000, Verdict.UNDEFINED)
+        for word, flag in [(SCATTER, Flags.SVE), (STRIDED, Flags.SME2), (QUADWORD, Flags.SVE2P1)]:
+            self.check(Machine(flags=every ^ flag), word, Verdict.UNDEFINED)
+        self.assertEqual(element(scatter(), 0xE4208000, 0), Element(Verdict.UNDEFINED, False, 0, 0, 0, 0))
+
+    def test_illegal(self):
+        self.check(Machine(flags=Flags.SVE | Flags.STREAMING), SCATTER, Verdict.ILLEGAL)
+        self.check(Machine(flags=Flags.SVE2P1 | Flags.STREAMING), QUADWORD, Verdict.ILLEGAL)
+        self.check(Machine(flags=Flags.SME2 | Flags.FA64), STRIDED, Verdict.ILLEGAL)
+
+    def test_stack(self):
+        machine, word = scatter(), SCATTER | 31 << 5
+        machine.sp, machine.flags = 0x1001, Flags.SVE | Flags.SP_CHECK
+        self.check(machine, word, Verdict.STACK)
+        machine.p = bytes(32)
+        self.assertEqual(run(machine, 0, bytearray(), word), Ran(Verdict.DONE, 0, 0, 0, 0))
+        machine.flags |= Flags.SP_CHECK_NONE_ACTIVE
+        self.check(machine, word, Verdict.STACK)
+
+    def test_fault(self):
+        self.check(scatter(), SCATTER, Verdict.FAULT, (3, 0x1005), length=5)
+        self.check(scatter(), SCATTER, Verdict.FAULT, (0, 0x1000), base=0x1001)
+        self.check(scatter(), SCATTER, Verdict.FAULT, (0, 0x1000), length=0)
+
+    def test_no_room(self):
+        for room in [0, 1, 30]:
+            patch = bytearray(b"\x77" * room)
+            self.assertEqual(make_patch(scatter(), 0x1000, 8, SCATTER, patch), Made(Verdict.NO_ROOM, 0, 0, 0, 0, 0))
+            self.assertEqual(patch, b"\x77" * room)
+
+    def test_bad_patch(self):
+        for bad, acceptable, offset in [(b"", 0, 0), (EXAMPLE[:20], 1, 14), (EXAMPLE[:-1], 2, 27), (EXAMPLE + b"\0", 2, 27)]:
+            memory = bytearray(b"\x77" * 8)
+            self.assertEqual(judge(bad), Judged(Verdict.BAD_PATCH, acceptable, offset, 0, 0))
+            self.assertEqual(apply(0x1000, memory, bad), Applied(Verdict.BAD_PATCH, 0, 0, 0, 0))
+            self.assertEqual(memory, b"\x77" * 8)
+
+    def test_outside(self):
+        for base, length, detail in [(0x1000, 5, (1, 0x1005)), (0x1001, 8, (0, 0x1000)), (0x1000, 0, (0, 0x1000))]:
+            memory = bytearray(b"\x77" * length)
+            self.assertEqual(apply(base, memory, EXAMPLE), Applied(Verdict.OUTSIDE, *detail, 0, 0))
+            self.assertEqual(memory, b"\x77" * length)
+
+
+class Arguments(unittest.TestCase):
+    """What can't be lent is refused before the call, and says which argument it is."""
+
+    def refused(self, error, name, call, *arguments):
+        with self.assertRaisesRegex(error, rf"\b{name}\b"):
+            call(*arguments)
+
+    def test_words(self):
+        for call in [decode, lambda word: run(scatter(), 0, bytearray(), word), lambda word: element(scatter(), word, 0),
+                     lambda word: make_patch(scatter(), 0, 0, word, bytearray())]:
+            for word in [-1, 2**32, 2**64]:
+                self.refused(ValueError, "word", call, word)
+            for word in [None, "E4428001", 1.0, b"\1\2\3\4"]:
+                self.refused(TypeError, "word", call, word)
+
+    def test_numbers(self):
+        for bad, error in [(-1, ValueError), (2**64, ValueError), (1.5, TypeError), (None, TypeError), ("1", TypeError)]:
+            self.refused(error, "base", run, scatter(), bad, bytearray(8), SCATTER)
+            self.refused(error, "base", apply, bad, bytearray(8), EXAMPLE)
+            self.refused(error, "base", make_patch, scatter(), bad, 8, SCATTER, bytearray(31))
+            self.refused(error, "length", make_patch, scatter(), 0, bad, SCATTER, bytearray(31))
+            self.refused(error, "number", element, scatter(), SCATTER, bad)
+            for name in ["vb", "flags", "sp"]:
+                machine = scatter()
+                setattr(machine, name, bad)
+                self.refused(error, name, run, machine, 0, bytearray(8), SCATTER)
+                self.refused(error, name, element, machine, SCATTER, 0)
+                self.refused(error, name, make_patch, machine, 0, 8, SCATTER, bytearray(31))
+            for name in ["class_", "index", "extension", "predicate", "base", "register"]:
+                self.refused(error, name, encode, Store(**{"class_": 6, name: bad}))
+        for multiple in [2**63, -2**63 - 1]:
+            self.refused(ValueError, "multiple", encode, Store(10, multiple=multiple))
+
+    def test_x(self):
+        for bad, error in [([0] * 30, ValueError), ([0] * 32, ValueError), ([0] * 30 + [2**64], ValueError), ([0] * 30 + [-1], ValueError),
+                           ([0] * 30 + [None], TypeError), (bytes(31), TypeError), ("0" * 31, TypeError), (0, TypeError)]:
+            self.refused(error, "x", run, Machine(x=bad), 0, bytearray(8), SCATTER)
+
+    def test_buffers(self):
+        memory = bytearray(b"\x77" * 8)
+        for bad in [None, [0] * 8, "12345678", 8, memoryview(bytes(8))]:
+            self.refused(TypeError, "memory", run, scatter(), 0x1000, bad, SCATTER)
+            self.refused(TypeError, "memory", apply, 0x1000, bad, EXAMPLE)
+            self.refused(TypeError, "patch", apply, 0x1000, memory, bad)
+            self.refused(TypeError, "patch", judge, bad)
+            self.refused(TypeError, "patch", make_patch, scatter(), 0, 8, SCATTER, bad)
+            for name in ["z", "p"]:
+                machine = scatter()
+                setattr(machine, name, bad)
+                self.refused(TypeError, name, run, machine, 0x1000, memory, SCATTER)
+        self.refused(TypeError, "memory", run, scatter(), 0x1000, bytes(8), SCATTER)
+        self.refused(TypeError, "memory", apply, 0x1000, bytes(8), EXAMPLE)
+        self.refused(TypeError, "patch", make_patch, scatter(), 0x1000, 8, SCATTER, bytes(31))
+        self.assertEqual(memory, b"\x77" * 8)
+
+    def test_shared_buffers(self):
+        machine, patch = scatter(), bytearray(EXAMPLE)
+        self.refused(ValueError, "memory and z", run, machine, 0x1000, machine.z, SCATTER)
+        self.refused(ValueError, "memory and p", run, machine, 0x1000, machine.p, SCATTER)
+        self.refused(ValueError, "patch and z", make_patch, machine, 0x1000, 8, SCATTER, machine.z)
+        self.refused(ValueError, "memory and patch", apply, 0x1000, patch, patch)
+        self.assertEqual((machine, patch), (scatter(), EXAMPLE))
+
+    def test_classes(self):
+        self.refused(TypeError, "machine", run, None, 0, bytearray(8), SCATTER)
+        self.refused(TypeError, "machine", element, {}, SCATTER, 0)
+        self.refused(TypeError, "store", encode, (6, 0, 0, 0, 0, 0, 0))
+
+
+# ---- patches, written independently: a set of byte writes is a dict from address to byte
+
+def runs_of(writes):
+    """The runs of a set, as lists of addresses."""
+    runs = []
+    for address in sorted(writes):
+        if runs and runs[-1][-1] + 1 == address:
+            runs[-1].append(address)
+        else:
+            runs.append([address])
+    return runs
+
+
+def encoding(writes):
+    """The string of a set."""
+    string, runs = b"", runs_of(writes)
+    for addresses in runs:
+        string += b"PR" + struct.pack("<QH", addresses[0], len(addresses)) + bytes(writes[address] for address in addresses)
+    return string + b"PE" + struct.pack("<H", len(runs))
+
+
+def read(string):
+    """The set whose string this is, or None: reads what can be read, and compares its encoding."""
+    writes, at = {}, 0
+    while string[at:at + 2] == b"PR" and len(string) >= at + 12:
+        start, length = struct.unpack_from("<QH", string, at + 2)
+        payload = string[at + 12:at + 12 + length]
+        writes.update((start + k, byte) for k, byte in enumerate(payload))
+        at += 12 + length
+    small = len(runs_of(writes)) <= 64 and len(writes) <= 1024 and all(address < 2**64 for address in writes)
+    return writes if small and encoding(writes) == string else None
+
+
+def laid(writes, base, memory):
+    """The window's bytes with the set laid over them, or None where it isn't in the window."""
+    after = bytearray(memory)
+    for address, byte in writes.items():
+        if not base <= address < base + len(memory):
+            return None
+        after[address - base] = byte
+    return after
+
+
+class Random(unittest.TestCase):
+    """Random calls, compared with the dict."""
+
+    def setUp(self):
+        self.random = random.Random(1)
+
+    def writes(self, base, length):
+        """A set with bytes near a window."""
+        chosen = self.random
+        writes = {}
+        for _ in range(chosen.choice([0, 1, 2, 3, 10, 64, 65, 70])):
+            start = base + chosen.randrange(-2, length + 2) if chosen.random() < 0.1 else base + chosen.randrange(max(1, length - 20))
+            for address in range(start, start + chosen.choice([1, 1, 2, 5, 20])):
+                if 0 <= address < 2**64:
+                    writes[address] = chosen.randrange(256)
+        return writes
+
+    def damaged(self, string):
+        chosen, string = self.random, bytearray(string)
+        for _ in range(chosen.choice([0, 0, 1, 1, 2])):
+            kind, place = chosen.randrange(4), chosen.randrange(len(string)) if string else 0
+            if kind == 0 and string:
+                string[place] = chosen.randrange(256)
+            elif kind == 1:
+                del string[place:]
+            elif kind == 2:
+                string.insert(place, chosen.randrange(256))
+            else:
+                string += chosen.randbytes(chosen.randrange(1, 5))
+        return bytes(string)
+
+    def test_patches(self):
+        counts = dict.fromkeys([Verdict.DONE, Verdict.BAD_PATCH, Verdict.OUTSIDE], 0)
+        for _ in range(2000):
+            length = self.random.choice([0, 1, 8, 100, 3000, LARGEST_WINDOW])
+            base = self.random.choice([0, 0x1000, 2**64 - max(length, 1), self.random.randrange(2**63)])
+            string = self.damaged(encoding(self.writes(base, length)))
+            memory = bytearray(self.random.randbytes(length))
+            before, writes = bytes(memory), read(string)
+            applied, judged = apply(base, memory, string), judge(string)
+            counts[applied.verdict] += 1
+            if writes is None:
+                self.assertEqual(applied, Applied(Verdict.BAD_PATCH, 0, 0, 0, 0))
+                self.assertEqual(judged, Judged(Verdict.BAD_PATCH, judged.acceptable, judged.offset, 0, 0))
+                self.assertLessEqual(judged.offset, len(string))
+                self.assertEqual(memory, before)
+                front = read(string[:judged.offset] + b"PE" + struct.pack("<H", judged.acceptable))
+                self.assertEqual(len(runs_of(front)), judged.acceptable)
+                continue
+            runs = runs_of(writes)
+            self.assertEqual(judged, Judged(Verdict.DONE, 0, 0, len(runs), len(writes)))
+            after = laid(writes, base, before)
+            if after is None:
+                first = next(r for r, run in enumerate(runs) if not base <= run[0] <= run[-1] < base + length)
+                self.assertEqual(applied, Applied(Verdict.OUTSIDE, first, runs[first][0], 0, 0))
+                self.assertEqual(memory, before)
+            else:
+                self.assertEqual(applied, Applied(Verdict.DONE, 0, 0, len(runs), len(writes)))
+                self.assertEqual(memory, after)
+        self.assertTrue(all(count >= 100 for count in counts.values()), counts)
+
+    def machine(self, base, length):
+        """A machine whose stores are often near the window, in each class."""
+        chosen = self.random
+        vb = chosen.choice(LENGTHS)
+        machine = Machine(vb=vb, flags=chosen.choice([7, 15, 31, 39, 63, 103, 127]))
+        machine.z = bytearray(chosen.randbytes(32 * vb))
+        near = b"".join(struct.pack("<Q", (base + chosen.randrange(length + 1)) % 2**64) for _ in range(vb))
+        small = b"".join(struct.pack("<I", chosen.randrange(length // 8 + 1)) for _ in range(vb))
+        wide = b"".join(struct.pack("<Q", chosen.randrange(length // 8 + 1)) for _ in range(vb))
+        for r, offsets in enumerate([near, small, wide]):
+            machine.z[r * vb:r * vb + vb] = offsets[:vb]
+        machine.p = bytearray(chosen.choice([bytes(2 * vb), b"\xff" * (2 * vb), chosen.randbytes(2 * vb)]))
+        for g in range(8, 16):
+            struct.pack_into("<H", machine.p, g * vb // 8, chosen.randrange(1 << chosen.choice([4, 8, 16])))
+        machine.x = [chosen.choice([base, base + length // 2]) % 2**64 for _ in range(31)]
+        machine.x[1:4] = [chosen.randrange(8), chosen.randrange(length + 1), chosen.randrange(2**64)]
+        machine.sp = (base & ~15 if chosen.random() < 0.5 else base + 1) % 2**64
+        return machine
+
+    def store(self):
+        """A word with Z0 to Z2 as offsets."""
+        chosen = self.random
+        word = chosen.choice(BASES)
+        store = decode(word).store
+        word |= chosen.randrange(8) << 10 | chosen.choice([0, 3, 30, 30, 31]) << 5 | chosen.randrange(4)
+        if store.class_ == 12:
+            return 0xE4202000 | chosen.choice([31, 31, 3]) << 16 | word & 0x1C00 | word & 3
+        if store.class_ in (10, 11):
+            return word | chosen.choice([0, 0, 1, 15, 8]) << 16
+        return word | chosen.choice([1, 1, 2, 3, 31] if store.class_ > 7 else [1, 2]) << 16
+
+    def test_stores(self):
+        counts = dict.fromkeys(list(Verdict)[:9], 0)
+        classes = dict.fromkeys(range(1, 13), 0)
+        for _ in range(2000):
+            length = self.random.choice([0, 64, 3000, 3000, LARGEST_WINDOW])
+            base = self.random.choice([0x10000, 0x10000, 2**64 - max(length, 1)])
+            machine, word = self.machine(base, length), self.store()
+            memory, patch = bytearray(self.random.randbytes(length)), bytearray(b"\x77" * LARGEST_PATCH)
+            before, count = bytes(memory), element(machine, word, 0).elements
+            active = [(e, one) for e in range(count) for one in [element(machine, word, e)] if one.active]
+            writes, moved = {}, 0
+            for _, one in active:
+                for k in range(one.bytes):
+                    writes[one.address + k] = machine.z[one.place + k]
+                    moved += 1
+            ran = run(machine, base, memory, word)
+            made = make_patch(machine, base, length, word, patch)
+            counts[ran.verdict] += 1
+            self.assertEqual((made.verdict, made.element, made.address), (ran.verdict, ran.element, ran.address))
+            if ran.done:
+                classes[decode(word).store.class_] += bool(active)
+                string = encoding(writes)
+                self.assertEqual(ran, Ran(Verdict.DONE, 0, 0, len(active), moved))
+                self.assertEqual(made, Made(Verdict.DONE, 0, 0, len(active), moved, len(string)))
+                self.assertEqual(memory, laid(writes, base, before))
+                self.assertEqual(patch, string + b"\x77" * (LARGEST_PATCH - len(string)))
+                again = bytearray(before)
+                self.assertEqual(apply(base, again, string), Applied(Verdict.DONE, 0, 0, len(runs_of(writes)), len(writes)))
+                self.assertEqual(again, memory)
+                self.assertEqual(make_patch(machine, base, length, word, bytearray(len(string) - 1)).verdict, Verdict.NO_ROOM)
+                continue
+            self.assertEqual((memory, patch), (before, b"\x77" * LARGEST_PATCH))
+            if ran.verdict is Verdict.FAULT:
+                outside = ((e, one.address) for e, one in active if not base <= one.address <= base + length - one.bytes)
+                self.assertEqual(next(outside), (ran.element, ran.address))
+            else:
+                self.assertEqual((ran.element, ran.address), (0, 0))
+        for verdict in [Verdict.DONE, Verdict.ILLEGAL, Verdict.STACK, Verdict.FAULT]:
+            self.assertGreaterEqual(counts[verdict], 20, counts)
+        self.assertTrue(all(count >= 5 for count in classes.values()), classes)
+
+
+class Declarations(unittest.TestCase):
+    """The header's and this module's declarations say what the proved source says."""
+
+    ROOT = pathlib.Path(__file__).resolve().parents[2]
+    NUMBERS = {"u32": ("uint32_t", ctypes.c_uint32), "u64": ("uint64_t", ctypes.c_uint64), "usize": ("size_t", ctypes.c_size_t)}
+
+    def parameters(self, name, kind):
+        """A parameter of the source as text in C, and as types of ctypes."""
+        reference = re.fullmatch(r"&(mut )?\[(\w+)(?:; (\d+))?\]", kind)
+        if not reference:
+            number, type_ = self.NUMBERS[kind]
+            return [f"{number} {name}"], [type_]
+        mutable, entry, count = reference.groups()
+        const = "" if mutable else "const "
+        if count:
+            number, type_ = self.NUMBERS[entry]
+            return [f"{const}{number} {name}[{count}]"], [type_ * int(count)]
+        self.assertEqual(entry, "u8")
+        return [f"{const}uint8_t *{name}", f"size_t {name}_len"], [ctypes.c_void_p, ctypes.c_size_t]
+
+    def test_declarations(self):
+        source = "\n".join(path.read_text(encoding="utf-8") for path in sorted(self.ROOT.glob("crates/starshackle/src/*.rt")))
+        header = (self.ROOT / "include/starshackle.h").read_text(encoding="utf-8")
+        wanted, types = {}, {}
+        for function, listed in re.findall(r'extern "C" fn (\w+)\(([^)]*)\) -> u64', source):
+            pairs = [self.parameters(*part.strip().split(": ", 1)) for part in listed.split(",") if part.strip()]
+            wanted[function] = ", ".join(text for texts, _ in pairs for text in texts)
+            types[function] = [type_ for _, some in pairs for type_ in some]
+        declared = {function: " ".join(listed.split()) for function, listed in re.findall(r"^uint64_t (\w+)\(([^)]*)\);", header, re.M)}
+        self.assertEqual(source.count('extern "C"'), len(wanted))
+        self.assertEqual(len(wanted), 7)
+        self.assertEqual(declared, wanted)
+        self.assertEqual(starshackle._PARAMETERS, types)
+
+    def test_numbers(self):
+        header = (self.ROOT / "include/starshackle.h").read_text(encoding="utf-8")
+        numbers = {name: int(number) for name, number in re.findall(r"^    STARSHACKLE_(\w+) = (\d+)", header, re.M)}
+        here = {name: getattr(starshackle, name) for name in ["LARGEST_STORE_PATCH", "LARGEST_PATCH", "LARGEST_WINDOW"]}
+        for enum, prefix in [(Verdict, ""), (Flags, "FLAG_"), (Extension, "EXTENSION_")]:
+            here.update((prefix + name, int(value)) for name, value in enum.__members__.items())
+        others = {name for name in numbers if name.startswith(("CLASS_", "FIELD_"))}
+        self.assertEqual(here, {name: number for name, number in numbers.items() if name not in others})
+
+
+def load_tests(_loader, tests, _pattern):
+    """The docstrings' examples too."""
+    tests.addTests(doctest.DocTestSuite(starshackle))
+    return tests
+
+
+if __name__ == "__main__":
+    unittest.main()
