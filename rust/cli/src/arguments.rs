@@ -12,24 +12,59 @@ pub struct Arguments {
     pub help: bool,
     pub json: bool,
     pub operands: Vec<String>,
+    /// The options with a value.
+    values: Vec<(&'static str, String)>,
 }
 
 impl Arguments {
-    /// Takes options wherever they stand, up to a `--`.
-    pub fn read(words: impl IntoIterator<Item = OsString>) -> Result<Arguments, Usage> {
+    /// Takes options wherever they stand, up to a `--`. Those in `valued` take the next word.
+    pub fn read(
+        words: impl IntoIterator<Item = OsString>,
+        valued: &[&'static str],
+    ) -> Result<Arguments, Usage> {
         let (mut arguments, mut options) = (Arguments::default(), true);
-        for word in words {
-            if options && word == "--" {
+        let mut words = words.into_iter();
+        while let Some(word) = words.next() {
+            let option = valued.iter().copied().find(|option| options && word == *option);
+            if let Some(option) = option {
+                arguments.put(option, words.next())?;
+            } else if options && word == "--" {
                 options = false;
             } else if options && asks_for_help(&word) {
                 arguments.help = true;
             } else if options && word == "--json" {
                 arguments.json = true;
             } else {
-                arguments.operands.push(operand(word, options)?);
+                arguments.operands.push(operand(word, options, valued)?);
             }
         }
         Ok(arguments)
+    }
+
+    fn put(&mut self, option: &'static str, value: Option<OsString>) -> Result<(), Usage> {
+        let value = value.ok_or_else(|| Usage(format!("nothing behind {option}")))?;
+        if self.values.iter().any(|(other, _)| *other == option) {
+            return Err(Usage(format!("{option} given twice; expected one")));
+        }
+        self.values.push((option, utf_8(value)?));
+        Ok(())
+    }
+
+    /// The value of an option that has to be given.
+    pub fn value(&self, option: &str, expected: &str) -> Result<&str, Usage> {
+        match self.values.iter().find(|(other, _)| *other == option) {
+            Some((_, value)) => Ok(value),
+            None => Err(Usage(format!("no {option}; expected {option} and {expected}"))),
+        }
+    }
+
+    /// The one operand that a subcommand takes.
+    pub fn operand(&self, expected: &str) -> Result<&str, Usage> {
+        match &self.operands[..] {
+            [operand] => Ok(operand),
+            [] => Err(Usage(format!("no file; expected {expected}"))),
+            [_, second, ..] => Err(Usage(format!("a second file, '{second}'; expected one"))),
+        }
     }
 }
 
@@ -37,14 +72,17 @@ pub fn asks_for_help(word: &OsString) -> bool {
     word == "--help" || word == "-h"
 }
 
-fn operand(word: OsString, options: bool) -> Result<String, Usage> {
-    match word.into_string() {
-        Ok(word) if options && word.starts_with('-') => {
-            Err(Usage(format!("unknown option '{word}'; expected --json or --help")))
-        }
-        Ok(word) => Ok(word),
-        Err(word) => Err(unexpected(&word.to_string_lossy(), "UTF-8")),
+fn operand(word: OsString, options: bool, valued: &[&str]) -> Result<String, Usage> {
+    let word = utf_8(word)?;
+    if options && word.starts_with('-') {
+        let expected = one_of(valued.iter().copied().chain(["--json", "--help"]));
+        return Err(Usage(format!("unknown option '{word}'; expected {expected}")));
     }
+    Ok(word)
+}
+
+fn utf_8(word: OsString) -> Result<String, Usage> {
+    word.into_string().map_err(|word| unexpected(&word.to_string_lossy(), "UTF-8"))
 }
 
 /// The two sides of an operand NAME=VALUE.
@@ -70,11 +108,12 @@ mod tests {
     use super::*;
 
     fn read(words: &[&str]) -> Result<Arguments, Usage> {
-        Arguments::read(words.iter().map(OsString::from))
+        Arguments::read(words.iter().map(OsString::from), &["-o", "--base"])
     }
 
     fn arguments(help: bool, json: bool, operands: &[&str]) -> Arguments {
-        Arguments { help, json, operands: operands.iter().map(|word| word.to_string()).collect() }
+        let operands = operands.iter().map(|word| word.to_string()).collect();
+        Arguments { help, json, operands, values: Vec::new() }
     }
 
     #[test]
@@ -90,6 +129,25 @@ mod tests {
         for word in ["-", "-x", "--jsonx", "-2"] {
             assert!(read(&["a", word]).is_err(), "{word}");
         }
+    }
+
+    #[test]
+    fn options_with_a_value() {
+        let arguments = read(&["-o", "--json", "a", "--base", "-o"]).unwrap();
+        assert_eq!(arguments.operand("a file"), Ok("a"));
+        assert_eq!(arguments.value("-o", "a file"), Ok("--json"));
+        assert_eq!(arguments.value("--base", "an address"), Ok("-o"));
+        assert!(arguments.value("--memory", "a file").is_err());
+        assert!(!arguments.json);
+        for words in [&["-o"][..], &["-o", "a", "-o", "b"], &["-oa"], &["--base=1"]] {
+            assert!(read(words).is_err(), "{words:?}");
+        }
+    }
+
+    #[test]
+    fn one_operand() {
+        assert!(read(&[]).unwrap().operand("a file").is_err());
+        assert!(read(&["a", "b"]).unwrap().operand("a file").is_err());
     }
 
     #[test]

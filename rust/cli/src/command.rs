@@ -1,6 +1,7 @@
 //! What a subcommand is and what it answers.
 
 use crate::arguments::{Arguments, Usage};
+use crate::output::Output;
 
 pub struct Command {
     pub name: &'static str,
@@ -8,7 +9,9 @@ pub struct Command {
     pub summary: &'static str,
     /// Its whole help, the usage in the first line.
     pub help: &'static str,
-    pub run: fn(&Arguments) -> Result<Report, Usage>,
+    /// The options that take a value.
+    pub valued: &'static [&'static str],
+    pub run: fn(&Arguments) -> Result<Report, Failure>,
 }
 
 impl Command {
@@ -19,12 +22,28 @@ impl Command {
 
 /// What goes to standard output, and whether the model refused something.
 pub struct Report {
-    pub output: String,
+    pub text: String,
     pub refused: bool,
+    /// The file that gets its name once the text is out.
+    pub output: Option<Output>,
 }
 
-impl From<String> for Report {
-    fn from(output: String) -> Report {
-        Report { output, refused: false }
+impl Report {
+    pub fn new(text: String, refused: bool) -> Report {
+        Report { text, refused, output: None }
+    }
+}
+
+/// Why there is no report.
+#[derive(Debug, PartialEq, Eq)]
+pub enum Failure {
+    Usage(Usage),
+    /// A file can't be read, isn't what was expected, or can't be written.
+    File(String),
+}
+
+impl From<Usage> for Failure {
+    fn from(usage: Usage) -> Failure {
+        Failure::Usage(usage)
     }
 }

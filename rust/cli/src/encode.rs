@@ -1,11 +1,11 @@
 //! `starshackle encode`: the word of a store.
 
 use crate::arguments::{one_of, pair, unexpected, Arguments, Usage};
-use crate::classes::{self, Field, FIELDS};
-use crate::command::{Command, Report};
+use crate::classes::FIELDS;
+use crate::command::{Command, Failure, Report};
 use crate::json::Json;
 use crate::numbers::hexadecimal;
-use crate::verdicts;
+use crate::{fields, verdicts};
 use starshackle::{Refusal, Store};
 
 pub const COMMAND: Command = Command {
@@ -33,13 +33,14 @@ null where there is none.
 
 Exit status: 0 there is a word, 1 there is none, 2 bad usage.
 ",
+    valued: &[],
     run,
 };
 
-fn run(arguments: &Arguments) -> Result<Report, Usage> {
+fn run(arguments: &Arguments) -> Result<Report, Failure> {
     let outcome = starshackle::encode(store(&arguments.operands)?);
-    let output = if arguments.json { json(&outcome).to_string() } else { text(&outcome) };
-    Ok(Report { output: output + "\n", refused: outcome.is_err() })
+    let answer = if arguments.json { json(&outcome).to_string() } else { text(&outcome) };
+    Ok(Report::new(answer + "\n", outcome.is_err()))
 }
 
 fn text(outcome: &Result<u32, Refusal>) -> String {
@@ -62,42 +63,18 @@ fn store(operands: &[String]) -> Result<Store, Usage> {
     let (mut store, mut given) = (Store::default(), Vec::new());
     for operand in operands {
         let (name, value) = pair(operand)?;
-        let field = named(name)?;
-        no_repetition(field, &given)?;
+        let field = fields::named(name).ok_or_else(|| unknown(name))?;
+        if let Some(other) = given.iter().find(|other| field.shares(other)) {
+            return Err(fields::repetition(other, field));
+        }
         field.entry.put(&mut store, value).map_err(|expected| unexpected(operand, expected))?;
-        given.push(field);
+        given.push(*field);
     }
-    names_of_class(store.class, &given)?;
+    given.iter().try_for_each(|field| fields::of_class(store.class, field))?;
     Ok(store)
 }
 
-fn named(name: &str) -> Result<&'static Field, Usage> {
-    FIELDS.iter().find(|field| field.name.eq_ignore_ascii_case(name)).ok_or_else(|| {
-        let expected = one_of(FIELDS.iter().map(|field| field.name));
-        Usage(format!("unknown name '{name}'; expected {expected}"))
-    })
-}
-
-fn no_repetition(field: &Field, given: &[&Field]) -> Result<(), Usage> {
-    let name = field.name;
-    match given.iter().find(|other| other.entry == field.entry) {
-        None => Ok(()),
-        Some(other) if *other == field => Err(Usage(format!("{name} given twice; expected one"))),
-        Some(other) => Err(Usage(format!("both {} and {name} given; expected one", other.name))),
-    }
-}
-
-/// Whether the class has no other name for what is given.
-fn names_of_class(number: u64, given: &[&Field]) -> Result<(), Usage> {
-    let fields = classes::numbered(number).map_or(&[][..], |class| class.fields);
-    for field in given {
-        match fields.iter().find(|other| other.entry == field.entry) {
-            Some(other) if other != *field => {
-                let (wrong, right) = (field.name, other.name);
-                return Err(Usage(format!("class {number} has no {wrong}; expected {right}")));
-            }
-            _ => (),
-        }
-    }
-    Ok(())
+fn unknown(name: &str) -> Usage {
+    let expected = one_of(FIELDS.iter().map(|field| field.name));
+    Usage(format!("unknown name '{name}'; expected {expected}"))
 }

@@ -1,33 +1,52 @@
 //! The command line of the proved model of Arm's predicated vector stores.
 //!
-//! It reads arguments and shows answers. What a word is, and which word a store has, comes from
-//! the model.
+//! It reads arguments and files and shows answers. What a word is, which word a store has, what a
+//! store and each of its elements do, and what a patch is and does, comes from the model.
 
 #![forbid(unsafe_code)]
 
+#[macro_use]
+mod store;
+mod apply;
 mod arguments;
 mod classes;
 mod command;
 mod decode;
 mod encode;
+mod fields;
+mod input;
 mod json;
+mod known;
 mod numbers;
+mod output;
+mod patch;
+mod picture;
+mod run;
+mod show;
 mod verdicts;
 
 use arguments::{Arguments, Usage};
-use command::{Command, Report};
+use command::{Command, Failure, Report};
+use output::Output;
 use std::ffi::OsString;
 use std::io::{self, Write};
 use std::process::ExitCode;
 
 /// The subcommands, in the order in which the help shows them.
-const COMMANDS: &[Command] = &[decode::COMMAND, encode::COMMAND];
+const COMMANDS: &[Command] = &[
+    run::COMMAND,
+    patch::COMMAND,
+    apply::COMMAND,
+    show::COMMAND,
+    decode::COMMAND,
+    encode::COMMAND,
+];
 
 const USAGE: &str = "usage: starshackle COMMAND [--json] [ARGUMENT...]";
 
 /// The exit status when the model refuses.
 const REFUSED: u8 = 1;
-/// The exit status of bad usage and of output that can't be written.
+/// The exit status of bad usage and of files that can't be read or written.
 const FAILED: u8 = 2;
 
 fn main() -> ExitCode {
@@ -35,20 +54,20 @@ fn main() -> ExitCode {
     let first = words.next();
     match COMMANDS.iter().find(|command| first.as_deref() == Some(command.name.as_ref())) {
         Some(command) => match call(command, words) {
-            Ok(report) => show(&report),
-            Err(usage) => {
-                complain(&format!("starshackle {}", command.name), &usage, command.usage())
-            }
+            Ok(report) => answer(report),
+            Err(failure) => complain(command, &failure),
         },
-        None if first.as_ref().map_or(false, arguments::asks_for_help) => show(&help().into()),
-        None => complain("starshackle", &no_command(first), USAGE),
+        None if first.as_ref().map_or(false, arguments::asks_for_help) => {
+            answer(Report::new(help(), false))
+        }
+        None => fail(&format!("starshackle: {}\n{USAGE}", no_command(first).0)),
     }
 }
 
-fn call(command: &Command, words: impl Iterator<Item = OsString>) -> Result<Report, Usage> {
-    let arguments = Arguments::read(words)?;
+fn call(command: &Command, words: impl Iterator<Item = OsString>) -> Result<Report, Failure> {
+    let arguments = Arguments::read(words, command.valued)?;
     if arguments.help {
-        return Ok(command.help.to_string().into());
+        return Ok(Report::new(command.help.to_string(), false));
     }
     (command.run)(&arguments)
 }
@@ -61,7 +80,7 @@ fn help() -> String {
     }
     help + "
 `starshackle COMMAND --help` describes a command. With --json the answer is JSON.
-Exit status: 0 done, 1 refused by the model, 2 bad usage.
+Exit status: 0 done, 1 refused by the model, 2 bad usage or an unreadable file.
 "
 }
 
@@ -74,18 +93,27 @@ fn no_command(first: Option<OsString>) -> Usage {
     Usage(format!("{found}; expected {expected}"))
 }
 
-/// Writes the report to standard output. The exit status is the model's answer.
-fn show(report: &Report) -> ExitCode {
+/// Writes the report to standard output, then its file. The exit status is the model's answer.
+fn answer(report: Report) -> ExitCode {
     let mut out = io::stdout().lock();
-    match out.write_all(report.output.as_bytes()).and_then(|()| out.flush()) {
+    if let Err(error) = out.write_all(report.text.as_bytes()).and_then(|()| out.flush()) {
+        return fail(&format!("starshackle: standard output: {error}"));
+    }
+    match report.output.map_or(Ok(()), Output::put) {
         Ok(()) if report.refused => ExitCode::from(REFUSED),
         Ok(()) => ExitCode::SUCCESS,
-        Err(error) => fail(&format!("starshackle: standard output: {error}")),
+        Err(message) => fail(&format!("starshackle: {message}")),
     }
 }
 
-fn complain(who: &str, Usage(message): &Usage, usage: &str) -> ExitCode {
-    fail(&format!("{who}: {message}\n{usage}"))
+fn complain(command: &Command, failure: &Failure) -> ExitCode {
+    let name = command.name;
+    match failure {
+        Failure::Usage(Usage(message)) => {
+            fail(&format!("starshackle {name}: {message}\n{}", command.usage()))
+        }
+        Failure::File(message) => fail(&format!("starshackle {name}: {message}")),
+    }
 }
 
 fn fail(message: &str) -> ExitCode {

@@ -11,11 +11,31 @@ pub fn hexadecimal(word: u32) -> String {
     format!("{word:08X}")
 }
 
+/// An address as answers show it.
+pub fn address(address: u64) -> String {
+    format!("0x{address:016X}")
+}
+
+/// Bytes as answers show them, in hexadecimal.
+pub fn bytes(bytes: &[u8], separator: &str) -> String {
+    let digits: Vec<String> = bytes.iter().map(|byte| format!("{byte:02X}")).collect();
+    digits.join(separator)
+}
+
 /// A number, decimal or `0x` and hexadecimal.
 pub fn number(text: &str) -> Option<u64> {
-    match behind_0x(text) {
-        Some(digits) => digits_of(digits, 16),
-        None => digits_of(text, 10),
+    u64::try_from(wide(text)?).ok()
+}
+
+/// A number of some bits, 128 at most, that may have a minus, then in two's complement.
+pub fn of_bits(text: &str, bits: u32) -> Option<u128> {
+    let most = u128::MAX >> (128 - bits);
+    match text.strip_prefix('-') {
+        Some(rest) => {
+            let magnitude = wide(rest)?;
+            (magnitude <= most / 2 + 1).then_some(magnitude.wrapping_neg() & most)
+        }
+        None => wide(text).filter(|number| *number <= most),
     }
 }
 
@@ -29,15 +49,22 @@ pub fn signed(text: &str) -> Option<i64> {
     i64::try_from(value).ok()
 }
 
+fn wide(text: &str) -> Option<u128> {
+    match behind_0x(text) {
+        Some(digits) => digits_of(digits, 16),
+        None => digits_of(text, 10),
+    }
+}
+
 /// What stands behind `0x`.
-fn behind_0x(text: &str) -> Option<&str> {
+pub fn behind_0x(text: &str) -> Option<&str> {
     text.strip_prefix("0x").or_else(|| text.strip_prefix("0X"))
 }
 
-fn digits_of(digits: &str, radix: u32) -> Option<u64> {
+fn digits_of(digits: &str, radix: u32) -> Option<u128> {
     // The library's reader also takes a plus sign.
     let plain = digits.chars().all(|digit| digit.is_digit(radix));
-    plain.then(|| u64::from_str_radix(digits, radix).ok())?
+    plain.then(|| u128::from_str_radix(digits, radix).ok())?
 }
 
 #[cfg(test)]
@@ -68,6 +95,20 @@ mod tests {
         for text in ["", "0x", "1F", "1Fh", "+1", "-1", "18446744073709551616", "1e3", "٣"] {
             assert_eq!(number(text), None, "{text}");
         }
+    }
+
+    #[test]
+    fn numbers_of_bits() {
+        assert_eq!(of_bits("255", 8), Some(255));
+        assert_eq!(of_bits("-1", 8), Some(255));
+        assert_eq!(of_bits("-0x80", 8), Some(128));
+        assert_eq!(of_bits("-0", 8), Some(0));
+        assert_eq!(of_bits("-8", 128), Some(u128::MAX - 7));
+        assert_eq!(of_bits("340282366920938463463374607431768211455", 128), Some(u128::MAX));
+        for text in ["256", "-129", "0x100", "", "-", "+1", "--1", "1.0"] {
+            assert_eq!(of_bits(text, 8), None, "{text}");
+        }
+        assert_eq!(of_bits("340282366920938463463374607431768211456", 128), None);
     }
 
     #[test]

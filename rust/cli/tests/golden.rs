@@ -2,7 +2,8 @@
 //!
 //! A file is a row of blocks: a line `$ starshackle ARGUMENTS` (parted by spaces, no quotes),
 //! then standard output; standard error, if any, behind a line `[standard error]`; and a line
-//! `[status N]`. To store the answers of today, run
+//! `[status N]`. Files are named from the repository's root; TMP is a folder with the files that
+//! [`made_files`] makes. To store the answers of today, run
 //!
 //!     STARSHACKLE_GOLDEN=rewrite cargo test --release --locked
 //!
@@ -13,14 +14,21 @@ use std::process::Command;
 use std::{env, fs};
 
 const PROMPT: &str = "$ starshackle";
+const ROOT: &str = concat!(env!("CARGO_MANIFEST_DIR"), "/../..");
+
+/// Document 01's patch: A1 A3 at 1000h, A4 at 1005h.
+const PATCH: &[u8; 31] =
+    b"PR\x00\x10\0\0\0\0\0\0\x02\0\xA1\xA3PR\x05\x10\0\0\0\0\0\0\x01\0\xA4PE\x02\0";
 
 #[test]
 fn answers_are_as_stored() {
     let rewrite = env::var_os("STARSHACKLE_GOLDEN").map_or(false, |value| value == "rewrite");
-    let files = files();
+    let files = files("rust/cli/tests/golden");
     assert!(!files.is_empty(), "no golden files");
+    let folder = made_files();
     for file in files {
         let stored = fs::read_to_string(&file).unwrap();
+        let block = |arguments| block(arguments, &folder);
         let answered: String = stored.lines().filter_map(command).map(block).collect();
         if rewrite {
             fs::write(&file, answered).unwrap();
@@ -30,12 +38,58 @@ fn answers_are_as_stored() {
     }
 }
 
-fn files() -> Vec<PathBuf> {
-    let folder = Path::new(env!("CARGO_MANIFEST_DIR")).join("tests/golden");
-    let mut files: Vec<PathBuf> =
-        fs::read_dir(folder).unwrap().map(|entry| entry.unwrap().path()).collect();
+#[test]
+fn every_store_is_run() {
+    let golden: String = files("rust/cli/tests/golden")
+        .into_iter()
+        .map(|file| fs::read_to_string(file).unwrap())
+        .collect();
+    for folder in ["examples", "rust/cli/tests/stores"] {
+        for file in files(folder) {
+            let name = format!("{folder}/{}", file.file_name().unwrap().to_str().unwrap());
+            let answered = |line: String| golden.contains(&format!("{PROMPT} {line}\n"));
+            assert!(answered(format!("run {name}")), "{name}");
+            assert!(answered(format!("run --json {name}")), "{name}");
+        }
+    }
+}
+
+fn files(folder: &str) -> Vec<PathBuf> {
+    let entries = fs::read_dir(Path::new(ROOT).join(folder)).unwrap();
+    let mut files: Vec<PathBuf> = entries.map(|entry| entry.unwrap().path()).collect();
     files.sort();
     files
+}
+
+/// A folder with memory and damaged patches.
+fn made_files() -> PathBuf {
+    let folder = Path::new(env!("CARGO_TARGET_TMPDIR")).join("golden");
+    let _ = fs::remove_dir_all(&folder);
+    fs::create_dir_all(&folder).unwrap();
+    let changed = |place: usize, byte: u8| {
+        let mut patch = *PATCH;
+        patch[place] = byte;
+        patch
+    };
+    let touching = changed(16, 0x02);
+    let files: &[(&str, &[u8])] = &[
+        ("empty", &[]),
+        ("memory-8", &[0xEE; 8]),
+        ("memory-65537", &[0; 65_537]),
+        ("cut-in-a-run.patch", &PATCH[..26]),
+        ("cut-at-the-end.patch", &PATCH[..29]),
+        ("one-byte-more.patch", &[&PATCH[..], &[0]].concat()),
+        ("other-mark.patch", &changed(14, b'Q')),
+        ("touching.patch", &touching),
+        ("descending.patch", &changed(17, 0x0F)),
+        ("no-byte.patch", &changed(10, 0)),
+        ("three-runs.patch", &changed(29, 3)),
+        ("random.patch", &[0x9C; 100]),
+    ];
+    for (name, bytes) in files {
+        fs::write(folder.join(name), bytes).unwrap();
+    }
+    folder
 }
 
 /// The arguments in a line that starts a block.
@@ -43,12 +97,14 @@ fn command(line: &str) -> Option<&str> {
     line.strip_prefix(PROMPT)
 }
 
-fn block(arguments: &str) -> String {
+fn block(arguments: &str, folder: &Path) -> String {
+    let folder = folder.to_str().unwrap();
     let output = Command::new(env!("CARGO_BIN_EXE_starshackle"))
-        .args(arguments.split_whitespace())
+        .args(arguments.split_whitespace().map(|word| word.replace("TMP", folder)))
+        .current_dir(ROOT)
         .output()
         .unwrap();
-    let text = |bytes| String::from_utf8(bytes).unwrap();
+    let text = |bytes| String::from_utf8(bytes).unwrap().replace(folder, "TMP");
     let mut block = format!("{PROMPT}{arguments}\n{}", text(output.stdout));
     if !output.stderr.is_empty() {
         block += &format!("[standard error]\n{}", text(output.stderr));

@@ -1,0 +1,66 @@
+//! A decoded store as answers show it.
+
+use crate::classes::{self, Class, Field, PC};
+use crate::json::Json;
+use starshackle::{assembly, Refusal, Store};
+
+/// A store with its class.
+pub struct Known {
+    store: Store,
+    class: &'static Class,
+}
+
+/// The members that a word's store has in JSON.
+pub fn members(known: Option<&Known>) -> [(&'static str, Json); 5] {
+    [
+        ("class", known.map(|known| known.store.class).into()),
+        ("class_name", known.map(|known| known.class.name).into()),
+        ("fields", known.map(Known::fields).into()),
+        ("counter", known.and_then(Known::counter).into()),
+        ("assembly", known.and_then(Known::assembly).into()),
+    ]
+}
+
+impl Known {
+    pub fn decode(word: u32) -> Result<Known, Refusal> {
+        let store = starshackle::decode(word)?;
+        let class = classes::numbered(store.class).expect("each of the model's classes has a name");
+        Ok(Known { store, class })
+    }
+
+    pub fn text(&self) -> String {
+        let Known { store, class } = self;
+        let fields: Vec<String> = class.fields.iter().map(|field| self.field(field)).collect();
+        let assembly = assembly::text(store).unwrap_or_default();
+        format!(
+            "class {}, {}\n  {}\n  assembly (not proved): {assembly}\n",
+            store.class,
+            class.name,
+            fields.join(", "),
+        )
+    }
+
+    fn field(&self, field: &Field) -> String {
+        let text = format!("{} {}", field.label, field.entry.of(&self.store));
+        match self.counter() {
+            Some(counter) if *field == PC => format!("{text} ({counter})"),
+            _ => text,
+        }
+    }
+
+    /// The predicate register that Pc names.
+    fn counter(&self) -> Option<String> {
+        let counts = self.class.fields.contains(&PC);
+        counts.then(|| format!("pn{}", 8 + self.store.predicate))
+    }
+
+    fn fields(&self) -> Json {
+        let value = |field: &Field| field.entry.of(&self.store).into();
+        Json::Object(self.class.fields.iter().map(|field| (field.name, value(field))).collect())
+    }
+
+    fn assembly(&self) -> Option<Json> {
+        let text = assembly::text(&self.store)?;
+        Some(Json::Object(vec![("text", text.into()), ("proved", false.into())]))
+    }
+}

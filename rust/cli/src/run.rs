@@ -1,0 +1,197 @@
+//! `starshackle run`: what a store does.
+
+use crate::arguments::Arguments;
+use crate::command::{Command, Failure, Report};
+use crate::json::Json;
+use crate::known::{self, Known};
+use crate::picture::picture;
+use crate::store::{self, Described};
+use crate::{numbers, verdicts};
+use starshackle::run::{element, Element, Machine, Outcome, Window};
+use starshackle::Refusal;
+
+pub const COMMAND: Command = Command {
+    name: "run",
+    summary: "runs the store that a file describes and shows what it did",
+    help: concat!(
+        "\
+usage: starshackle run [--json] FILE
+
+Shows the verdict with its detail and counts, the word's store, each element with its state,
+address and bytes, and the window, with the bytes that active elements have written in brackets.
+Of a long window only the lines with written bytes and their neighbours are shown.
+All this is the proved model's answer. The assembly text is not proved.
+
+",
+        store_help!(),
+        "
+With --json the answer is an object. Its keys: word, verdict, verdict_name, class, class_name,
+fields, counter, assembly (as in `starshackle decode`), detail (element and address of a fault),
+active_elements, bytes_moved, elements (each with element, active, address, bytes), window (address,
+length, memory). They are null where there is nothing to say.
+
+Exit status: 0 done, 1 refused by the model, 2 bad usage or an unreadable file.
+"
+    ),
+    valued: &[],
+    run,
+};
+
+fn run(arguments: &Arguments) -> Result<Report, Failure> {
+    let ran = Ran::of(store::read(arguments.operand(store::EXPECTED)?)?);
+    let text = if arguments.json { format!("{}\n", ran.json()) } else { ran.text() };
+    Ok(Report::new(text, ran.verdict() != verdicts::DONE))
+}
+
+/// A store after its run.
+struct Ran {
+    word: Option<u32>,
+    known: Option<Known>,
+    outcome: Outcome,
+    elements: Vec<Row>,
+    base: u64,
+    length: u64,
+    memory: Vec<u8>,
+}
+
+/// An element with its bytes.
+struct Row {
+    element: Element,
+    bytes: Vec<u8>,
+}
+
+impl Ran {
+    fn of(described: Described) -> Ran {
+        let Described { word, registers, base, length, mut memory } = described;
+        let machine = registers.machine();
+        let window = Window { base, memory: &mut memory };
+        let (outcome, elements) = match word {
+            Ok(word) => (starshackle::run::run(&machine, window, word), rows(&machine, word)),
+            Err(refusal) => (Outcome::Refused(refusal), Vec::new()),
+        };
+        let word = word.ok();
+        let known = word.and_then(|word| Known::decode(word).ok());
+        Ran { word, known, outcome, elements, base, length, memory }
+    }
+
+    fn verdict(&self) -> u64 {
+        match self.outcome {
+            Outcome::Done { .. } => verdicts::DONE,
+            Outcome::Fault { .. } => verdicts::FAULT,
+            Outcome::Refused(Refusal(number)) => number,
+        }
+    }
+
+    fn text(&self) -> String {
+        let outcome = match self.outcome {
+            Outcome::Done { elements, bytes } => verdicts::counts(elements, bytes),
+            Outcome::Fault { element, address } => verdicts::fault(element, address),
+            Outcome::Refused(_) => verdicts::NOTHING.to_string(),
+        };
+        let parts = [self.store_text(), self.elements_text(), self.window_text()];
+        let parts: String = parts.into_iter().flatten().map(|part| format!("\n{part}")).collect();
+        verdicts::line(self.verdict()) + &outcome + &parts
+    }
+
+    fn store_text(&self) -> Option<String> {
+        let word = numbers::hexadecimal(self.word?);
+        let store = self.known.as_ref().map_or("no class\n".to_string(), Known::text);
+        Some(format!("{word}: {store}"))
+    }
+
+    fn elements_text(&self) -> Option<String> {
+        if self.elements.is_empty() {
+            return None;
+        }
+        let mut text = "element  state     address             bytes\n".to_string();
+        for (number, row) in self.elements.iter().enumerate() {
+            let state = if row.element.active { "active" } else { "inactive" };
+            let address = numbers::address(row.element.address);
+            let bytes = numbers::bytes(&row.bytes, " ");
+            let mark = if self.faults(number) { "  <- fault" } else { "" };
+            text += &format!("{number:>7}  {state:<8}  {address}  {bytes}{mark}\n");
+        }
+        Some(text)
+    }
+
+    fn faults(&self, number: usize) -> bool {
+        matches!(self.outcome, Outcome::Fault { element, .. } if element == number as u64)
+    }
+
+    /// The window, unless the store was refused before its elements were held to it.
+    fn window_text(&self) -> Option<String> {
+        if matches!(self.outcome, Outcome::Refused(_)) {
+            return None;
+        }
+        let (address, length) = (numbers::address(self.base), self.length);
+        let picture = picture(self.base, &self.memory, &self.written());
+        Some(format!("window at {address}, length {length}, written bytes in [ ]\n{picture}"))
+    }
+
+    /// For each byte of the window, whether an active element has written it.
+    fn written(&self) -> Vec<bool> {
+        let mut written = vec![false; self.memory.len()];
+        if self.verdict() == verdicts::DONE {
+            for Element { address, bytes, .. } in self.active() {
+                let first = address.wrapping_sub(self.base) as usize;
+                written.iter_mut().skip(first).take(bytes as usize).for_each(|byte| *byte = true);
+            }
+        }
+        written
+    }
+
+    fn active(&self) -> impl Iterator<Item = Element> + '_ {
+        self.elements.iter().map(|row| row.element).filter(|element| element.active)
+    }
+
+    fn json(&self) -> Json {
+        let (elements, bytes, detail) = match self.outcome {
+            Outcome::Done { elements, bytes } => (elements, bytes, None),
+            Outcome::Fault { element, address } => (0, 0, Some((element, address))),
+            Outcome::Refused(_) => (0, 0, None),
+        };
+        let mut members = vec![("word", self.word.map(numbers::hexadecimal).into())];
+        members.extend(verdicts::numbered(self.verdict()));
+        members.extend(known::members(self.known.as_ref()));
+        let rows = self.elements.iter().enumerate().map(|(number, row)| row.json(number));
+        members.extend([
+            ("detail", verdicts::detail("element", detail)),
+            ("active_elements", elements.into()),
+            ("bytes_moved", bytes.into()),
+            ("elements", Json::List(rows.collect())),
+            ("window", self.window_json()),
+        ]);
+        Json::Object(members)
+    }
+
+    fn window_json(&self) -> Json {
+        let seen = !matches!(self.outcome, Outcome::Refused(_));
+        Json::Object(vec![
+            ("address", numbers::address(self.base).into()),
+            ("length", self.length.into()),
+            ("memory", seen.then(|| numbers::bytes(&self.memory, "")).into()),
+        ])
+    }
+}
+
+/// The store's elements. There are none where the model refuses to tell.
+fn rows(machine: &Machine, word: u32) -> Vec<Row> {
+    let elements = (0..).map_while(|number| element(machine, word, number).ok().flatten());
+    elements.map(|element| Row::of(machine, element)).collect()
+}
+
+impl Row {
+    fn of(machine: &Machine, element: Element) -> Row {
+        let bytes = machine.z.iter().skip(element.place as usize).take(element.bytes as usize);
+        Row { element, bytes: bytes.copied().collect() }
+    }
+
+    fn json(&self, number: usize) -> Json {
+        Json::Object(vec![
+            ("element", (number as u64).into()),
+            ("active", self.element.active.into()),
+            ("address", numbers::address(self.element.address).into()),
+            ("bytes", numbers::bytes(&self.bytes, "").into()),
+        ])
+    }
+}

@@ -1,0 +1,154 @@
+//! `starshackle show`: what is in a patch.
+
+use crate::arguments::Arguments;
+use crate::command::{Command, Failure, Report};
+use crate::json::Json;
+use crate::{input, numbers, verdicts};
+use starshackle::patch::{judge, Judged};
+
+pub const COMMAND: Command = Command {
+    name: "show",
+    summary: "shows the runs of a patch, or where a file stops being one",
+    help: "\
+usage: starshackle show [--json] PATCH
+
+Shows the runs of a patch: where each stands in the file, its address, length and bytes. Of a file
+that is no patch it shows how many runs from the front are whole and acceptable, these runs, and
+what stands behind them. Whether it is a patch, and where it stops being one, is the proved
+model's answer.
+
+A patch is a row of runs, then 50 45 and the number of runs in two bytes, and nothing behind it. A
+run is 50 52, its address in eight bytes, its length in two, and its bytes. There are at most 64
+runs and 1,024 bytes in them; a run has at least one; addresses ascend, with at least one unwritten
+address between runs; no run passes the top of the address space. Numbers are little-endian.
+
+With --json the answer is an object. Its keys: verdict, verdict_name, runs (each with run, offset,
+address, length, bytes), payload_bytes (in all of them), offset (where what follows can't be
+accepted, null for a patch).
+
+Exit status: 0 a patch, 1 none, 2 bad usage or an unreadable file.
+",
+    valued: &[],
+    run,
+};
+
+/// What the file is, for messages.
+pub const EXPECTED: &str = "a file with a patch";
+
+fn run(arguments: &Arguments) -> Result<Report, Failure> {
+    let patch = input::bytes(arguments.operand(EXPECTED)?, EXPECTED)?;
+    let judged = judge(&patch);
+    let runs = match judged {
+        Judged::Patch { runs, .. } | Judged::NoPatch { runs, .. } => Run::all(&patch, runs),
+    };
+    let text = if arguments.json { json(&judged, &runs) } else { text(&patch, &judged, &runs) };
+    Ok(Report::new(text, matches!(judged, Judged::NoPatch { .. })))
+}
+
+/// What text shows of the runs' number and bytes.
+pub fn counts(runs: u64, bytes: u64) -> String {
+    format!("  runs {runs}, payload bytes {bytes}\n")
+}
+
+/// A run that the model has accepted.
+struct Run<'a> {
+    offset: usize,
+    address: u64,
+    bytes: &'a [u8],
+}
+
+/// The bytes of a run before its payload.
+const HEADER: usize = 12;
+
+impl<'a> Run<'a> {
+    /// The runs from the front, of which the model has accepted so many.
+    fn all(patch: &'a [u8], count: u64) -> Vec<Run<'a>> {
+        let mut offset = 0;
+        let run = |_| {
+            let run = Run::at(patch, offset)?;
+            offset += HEADER + run.bytes.len();
+            Some(run)
+        };
+        (0..count).map_while(run).collect()
+    }
+
+    fn at(patch: &'a [u8], offset: usize) -> Option<Run<'a>> {
+        let (header, behind) = (patch.get(offset..)?.get(..HEADER)?, &patch[offset + HEADER..]);
+        let address = u64::from_le_bytes(header[2..10].try_into().ok()?);
+        let length = u16::from_le_bytes(header[10..].try_into().ok()?);
+        Some(Run { offset, address, bytes: behind.get(..length.into())? })
+    }
+
+    /// A line of the table, with a further one for each 16 bytes.
+    fn text(&self, number: usize) -> String {
+        let Run { offset, address, bytes } = self;
+        let (address, length) = (numbers::address(*address), bytes.len());
+        let start = format!("{number:>3}  {offset:>6}  {address}  {length:>6}");
+        let lines: Vec<String> = bytes.chunks(16).map(|line| numbers::bytes(line, " ")).collect();
+        let next = format!("\n{:width$}  ", "", width = start.len());
+        format!("{start}  {}\n", lines.join(&next))
+    }
+
+    fn json(&self, number: usize) -> Json {
+        Json::Object(vec![
+            ("run", (number as u64).into()),
+            ("offset", (self.offset as u64).into()),
+            ("address", numbers::address(self.address).into()),
+            ("length", (self.bytes.len() as u64).into()),
+            ("bytes", numbers::bytes(self.bytes, "").into()),
+        ])
+    }
+}
+
+fn verdict(judged: &Judged) -> u64 {
+    match judged {
+        Judged::Patch { .. } => verdicts::DONE,
+        Judged::NoPatch { .. } => verdicts::BAD_PATCH,
+    }
+}
+
+fn text(patch: &[u8], judged: &Judged, runs: &[Run]) -> String {
+    let outcome = match *judged {
+        Judged::Patch { runs, bytes } => counts(runs, bytes),
+        Judged::NoPatch { runs, offset } => wrong(patch, runs, offset),
+    };
+    let mut text = verdicts::line(verdict(judged)) + &outcome;
+    if !runs.is_empty() {
+        text += "\nrun  offset  address             length  bytes\n";
+    }
+    text.extend(runs.iter().enumerate().map(|(number, run)| run.text(number)));
+    text
+}
+
+/// What stands behind the acceptable runs, and what was expected there.
+fn wrong(patch: &[u8], runs: u64, offset: u64) -> String {
+    const MOST: usize = 16;
+    let rest = patch.get(offset as usize..).unwrap_or_default();
+    let found = match rest.len() {
+        0 => "the end of the file".to_string(),
+        1..=MOST => format!("{} and the end of the file", numbers::bytes(rest, " ")),
+        _ => format!("{} ..", numbers::bytes(&rest[..MOST], " ")),
+    };
+    let number = numbers::bytes(&(runs as u16).to_le_bytes(), " ");
+    format!(
+        "  whole and acceptable runs from the front {runs}, up to offset {offset}\n  \
+           found there: {found}\n  \
+           expected: a run that keeps the rules, or 50 45 {number} and the end of the file\n"
+    )
+}
+
+fn json(judged: &Judged, runs: &[Run]) -> String {
+    let bytes: usize = runs.iter().map(|run| run.bytes.len()).sum();
+    let offset = match *judged {
+        Judged::Patch { .. } => None,
+        Judged::NoPatch { offset, .. } => Some(offset),
+    };
+    let runs = runs.iter().enumerate().map(|(number, run)| run.json(number));
+    let mut members = Vec::from(verdicts::numbered(verdict(judged)));
+    members.extend([
+        ("runs", Json::List(runs.collect())),
+        ("payload_bytes", (bytes as u64).into()),
+        ("offset", offset.into()),
+    ]);
+    format!("{}\n", Json::Object(members))
+}

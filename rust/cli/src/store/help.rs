@@ -1,0 +1,27 @@
+//! How a file that describes a store is written.
+
+/// The part of a subcommand's help, a macro because only those are joined with literals.
+macro_rules! store_help {
+    () => {
+        "\
+FILE is a text with lines NAME = VALUE. What isn't given is 0; # starts a comment.
+
+  word = 0xE4428001            the instruction word; E4428001, as `decode` shows it, will do
+  class = 6                    or in its place the fields, by the names that `encode` takes
+  vb = 16                      the vector length in bytes
+  flags = sve streaming        those that are on: sve, sme2, sve2p1, streaming, fa64, sp-check,
+                               sp-check-none-active
+  x0 = 0x1000, sp = 4096       x0 to x30, sp
+  z2.s = 0 1 -1 0x5            z0 to z31 by elements of a width (b, h, s, d, q), lowest first
+  z2 = 00 11 22 33 ...         or by bytes
+  p0.s = 1 0 1 1               p0 to p15 by the bits of a width's elements
+  p8 = 0x0018                  or by bytes or as one number; p8 may be called pn8
+  window = 0x1000              the address of the window's first byte
+  length = 16                  how many bytes it has
+  memory = EE ...              the bytes in it
+
+Numbers are decimal or 0x and hexadecimal; bytes are hexadecimal, two digits each.
+A value is as long as its register or window; ... repeats the last element or byte up to there.
+"
+    };
+}

@@ -1,0 +1,176 @@
+//! Reading a file that describes a store.
+
+#[macro_use]
+mod help;
+mod lines;
+mod names;
+mod values;
+
+use crate::command::Failure;
+use crate::{fields, input, numbers};
+use lines::{is, lines, Line};
+use names::Subject;
+use starshackle::run::{elements, Flags, Machine};
+use starshackle::{Refusal, Store};
+
+/// What such a file is, for messages.
+pub const EXPECTED: &str = "a text that describes a store";
+
+/// A store with all that it works on.
+pub struct Described {
+    /// The word, or why the fields have none.
+    pub word: Result<u32, Refusal>,
+    pub registers: Registers,
+    /// The window's address and length.
+    pub base: u64,
+    pub length: u64,
+    /// The bytes in the window, as many as the model has to see.
+    pub memory: Vec<u8>,
+}
+
+/// The registers with their bytes.
+pub struct Registers {
+    vb: usize,
+    flags: Flags,
+    x: [u64; 31],
+    sp: u64,
+    z: Vec<u8>,
+    p: Vec<u8>,
+}
+
+impl Registers {
+    pub fn machine(&self) -> Machine<'_> {
+        let Registers { vb, flags, x, sp, ref z, ref p } = *self;
+        Machine { vb, flags, x, sp, z, p }
+    }
+
+    /// Registers of 0. For a length that the model refuses there are none.
+    fn zero(vb: usize) -> Registers {
+        let empty = Machine { vb, flags: Flags(0), x: [0; 31], sp: 0, z: &[], p: &[] };
+        let length = if elements(&empty, 0) == Err(BAD_LENGTH) { 0 } else { vb };
+        let (z, p) = (vec![0; 32 * length], vec![0; 2 * length]);
+        Registers { vb, flags: Flags(0), x: [0; 31], sp: 0, z, p }
+    }
+}
+
+const BAD_LENGTH: Refusal = Refusal(1);
+
+/// The model refuses this window and longer ones, so that no longer one has to be lent.
+const LONGEST: u64 = 65_537;
+
+/// The flags by name.
+const FLAGS: &[(&str, Flags)] = &[
+    ("sve", Flags::SVE),
+    ("sme2", Flags::SME2),
+    ("sve2p1", Flags::SVE2P1),
+    ("streaming", Flags::STREAMING),
+    ("fa64", Flags::FA64),
+    ("sp-check", Flags::SP_CHECK),
+    ("sp-check-none-active", Flags::SP_CHECK_NONE_ACTIVE),
+];
+
+pub fn read(path: &str) -> Result<Described, Failure> {
+    let text = input::text(path, EXPECTED)?;
+    let lines = lines(path, &text)?;
+    let word = word(path, &lines)?;
+    let registers = registers(&lines)?;
+    let base = number(&lines, Subject::Window)?.unwrap_or(0);
+    let (length, memory) = window(&lines)?;
+    Ok(Described { word, registers, base, length, memory })
+}
+
+fn find<'a, 'b>(lines: &'a [Line<'b>], subject: Subject) -> Option<&'a Line<'b>> {
+    lines.iter().find(|line| line.name.subject == subject)
+}
+
+/// The number in the line about something, if there is one.
+fn number(lines: &[Line], subject: Subject) -> Result<Option<u64>, Failure> {
+    let expected = "a number of 64 bits, decimal or 0x hexadecimal";
+    find(lines, subject).map(|line| line.read(numbers::number, expected)).transpose()
+}
+
+/// The given word, or that of the given fields.
+fn word(path: &str, lines: &[Line]) -> Result<Result<u32, Refusal>, Failure> {
+    if let Some(line) = find(lines, Subject::Word) {
+        let expected = "a word of 32 bits, such as 0xA16F6000";
+        return Ok(Ok(line.read(word_number, expected)?));
+    }
+    let (mut store, mut given) = (Store::default(), Vec::new());
+    for line in lines {
+        if let Subject::Field(field) = line.name.subject {
+            let put = field.entry.put(&mut store, line.value);
+            put.map_err(|expected| line.unexpected(&is(line.value), expected))?;
+            given.push((line, field));
+        }
+    }
+    if given.is_empty() {
+        return Err(Failure::File(format!("{path}: no word; expected a line word = WORD")));
+    }
+    for (line, field) in given {
+        fields::of_class(store.class, field).map_err(|usage| line.problem(&usage.0))?;
+    }
+    Ok(starshackle::encode(store))
+}
+
+/// A number, or a word as `starshackle decode` shows it.
+fn word_number(text: &str) -> Option<u32> {
+    let shown = numbers::word(text).filter(|word| numbers::hexadecimal(*word).len() == text.len());
+    shown.or_else(|| u32::try_from(numbers::number(text)?).ok())
+}
+
+fn registers(lines: &[Line]) -> Result<Registers, Failure> {
+    let vb = number(lines, Subject::Vb)?.unwrap_or(0);
+    // A length that has no room here is none of the model's either.
+    let mut registers = Registers::zero(usize::try_from(vb).unwrap_or(usize::MAX));
+    for line in lines {
+        match line.name.subject {
+            Subject::Flags => registers.flags = flags(line)?,
+            Subject::X(number) => registers.x[number] = values::general(line)?,
+            Subject::Sp => registers.sp = values::general(line)?,
+            Subject::Z(number) => put(&mut registers.z, number, 32, line, values::vector)?,
+            Subject::P(number) => put(&mut registers.p, number, 16, line, values::predicate)?,
+            _ => (),
+        }
+    }
+    Ok(registers)
+}
+
+/// Puts a line's value into one of a buffer's registers.
+fn put(
+    buffer: &mut [u8],
+    number: usize,
+    registers: usize,
+    line: &Line,
+    reader: fn(&Line, usize) -> Result<Vec<u8>, Failure>,
+) -> Result<(), Failure> {
+    let length = buffer.len() / registers;
+    if length > 0 {
+        buffer[number * length..][..length].copy_from_slice(&reader(line, length)?);
+    }
+    Ok(())
+}
+
+fn flags(line: &Line) -> Result<Flags, Failure> {
+    let mut flags = Flags::default();
+    for name in line.value.split_whitespace() {
+        let flag = FLAGS.iter().find(|(other, _)| other.eq_ignore_ascii_case(name));
+        let expected = || crate::arguments::one_of(FLAGS.iter().map(|(name, _)| *name));
+        flags |= flag.ok_or_else(|| line.unexpected(&is(name), &expected()))?.1;
+    }
+    Ok(flags)
+}
+
+/// The window's length and bytes.
+fn window(lines: &[Line]) -> Result<(u64, Vec<u8>), Failure> {
+    let length = number(lines, Subject::Length)?;
+    match find(lines, Subject::Memory) {
+        Some(line) => {
+            let memory = values::memory(line, length, LONGEST)?;
+            Ok((length.unwrap_or(memory.len() as u64), memory))
+        }
+        None => {
+            let length = length.unwrap_or(0);
+            Ok((length, vec![0; length.min(LONGEST) as usize]))
+        }
+    }
+}

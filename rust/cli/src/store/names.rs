@@ -1,0 +1,158 @@
+//! The names in a file that describes a store.
+
+use crate::classes::Field;
+use crate::fields;
+use std::fmt::{self, Display, Formatter};
+
+#[derive(Clone, Copy)]
+pub struct Name {
+    pub subject: Subject,
+    /// The width behind the name of a register, in bytes.
+    pub width: Option<Width>,
+}
+
+/// What a line is about.
+#[derive(Clone, Copy, PartialEq, Eq)]
+pub enum Subject {
+    Word,
+    Field(&'static Field),
+    Vb,
+    Flags,
+    X(usize),
+    Sp,
+    Z(usize),
+    P(usize),
+    /// The window's address.
+    Window,
+    /// How many bytes the window has.
+    Length,
+    /// The bytes in the window.
+    Memory,
+}
+
+/// An element's width.
+#[derive(Clone, Copy)]
+pub struct Width {
+    pub letter: char,
+    pub bytes: usize,
+}
+
+/// As Arm's assembly text has them.
+const WIDTHS: &[Width] =
+    &[width('b', 1), width('h', 2), width('s', 4), width('d', 8), width('q', 16)];
+
+const fn width(letter: char, bytes: usize) -> Width {
+    Width { letter, bytes }
+}
+
+const PLAIN: &[(&str, Subject)] = &[
+    ("word", Subject::Word),
+    ("vb", Subject::Vb),
+    ("flags", Subject::Flags),
+    ("sp", Subject::Sp),
+    ("window", Subject::Window),
+    ("length", Subject::Length),
+    ("memory", Subject::Memory),
+];
+
+impl Name {
+    pub const EXPECTED: &'static str =
+        "word, a field as `starshackle encode` takes it, vb, flags, \
+        x0 to x30, sp, z0 to z31, p0 to p15, window, length or memory";
+
+    pub fn read(text: &str) -> Option<Name> {
+        let text = text.to_ascii_lowercase();
+        if let Some(subject) = plain(&text) {
+            return Some(Name { subject, width: None });
+        }
+        let (register, width) = match text.split_once('.') {
+            Some((register, letter)) => (register, Some(width_of(letter)?)),
+            None => (&text[..], None),
+        };
+        let subject = register_named(register)?;
+        let has_width = matches!(subject, Subject::Z(_) | Subject::P(_));
+        (has_width || width.is_none()).then_some(Name { subject, width })
+    }
+
+    /// Whether both are about the same thing.
+    pub fn repeats(&self, other: &Name) -> bool {
+        match (self.subject, other.subject) {
+            (Subject::Field(field), Subject::Field(other)) => field.shares(other),
+            (Subject::Field(_), Subject::Word) | (Subject::Word, Subject::Field(_)) => true,
+            (subject, other) => subject == other,
+        }
+    }
+}
+
+fn plain(text: &str) -> Option<Subject> {
+    let found = PLAIN.iter().find(|(name, _)| *name == text).map(|(_, subject)| *subject);
+    found.or_else(|| fields::named(text).map(Subject::Field))
+}
+
+fn width_of(letter: &str) -> Option<Width> {
+    WIDTHS.iter().copied().find(|width| letter == width.letter.to_string())
+}
+
+/// The register of a name in lower case. `pn8` is another name of `p8`.
+fn register_named(text: &str) -> Option<Subject> {
+    let digits = text.find(|letter: char| letter.is_ascii_digit())?;
+    let (kind, digits) = text.split_at(digits);
+    let number = digits.parse().ok().filter(|number: &usize| number.to_string() == digits)?;
+    match (kind, number) {
+        ("x", 0..=30) => Some(Subject::X(number)),
+        ("z", 0..=31) => Some(Subject::Z(number)),
+        ("p", 0..=15) | ("pn", 8..=15) => Some(Subject::P(number)),
+        _ => None,
+    }
+}
+
+impl Display for Name {
+    fn fmt(&self, f: &mut Formatter) -> fmt::Result {
+        match self.subject {
+            Subject::Field(field) => f.write_str(field.name)?,
+            Subject::X(number) => write!(f, "x{number}")?,
+            Subject::Z(number) => write!(f, "z{number}")?,
+            Subject::P(number) => write!(f, "p{number}")?,
+            subject => {
+                let name = PLAIN.iter().find(|(_, other)| *other == subject);
+                f.write_str(name.map_or("", |(name, _)| name))?;
+            }
+        }
+        self.width.map_or(Ok(()), |width| write!(f, ".{}", width.letter))
+    }
+}
+
+#[cfg(test)]
+mod tests {
+    use super::*;
+
+    #[test]
+    fn names() {
+        for name in
+            ["word", "zm", "rm", "class", "x0", "x30", "sp", "z31", "z1.q", "p0.b", "memory"]
+        {
+            assert_eq!(Name::read(name).unwrap().to_string(), name);
+        }
+        assert_eq!(Name::read("PN8").unwrap().to_string(), "p8");
+        let wrong = [
+            "", "x31", "x01", "x+1", "xzr", "z32", "p16", "pn7", "pn16", "x0.d", "z1.", "z1.w",
+            "z1.d.d",
+        ];
+        for name in
+            wrong.into_iter().chain(["x", "x99999999999999999999", "z1 ", "sp.d", "é", "x٣"])
+        {
+            assert!(Name::read(name).is_none(), "{name}");
+        }
+    }
+
+    #[test]
+    fn repetitions() {
+        let repeats = |a, b| Name::read(a).unwrap().repeats(&Name::read(b).unwrap());
+        for (a, b) in
+            [("x0", "X0"), ("z1", "z1.d"), ("p8", "pn8.b"), ("zm", "rm"), ("word", "class")]
+        {
+            assert!(repeats(a, b) && repeats(b, a), "{a} {b}");
+        }
+        assert!(!repeats("x0", "x1") && !repeats("z1", "p1") && !repeats("zm", "zt"));
+    }
+}
