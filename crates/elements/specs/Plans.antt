@@ -35,8 +35,12 @@ offsetBytes None = 8
 offsetBytes Uxtw = 4
 offsetBytes Sxtw = 4
 
+-- the address by that offset
+abbrev pub addressFrom : ℕ → Extension → ℕ → List ℕ → ℕ → ℕ
+addressFrom base x scale offsets at = (base + offsetFrom x offsets at * 2 ^ scale) % 2 ^ 64
+
 unfoldable pub vectorAddress : VectorPlan → List ℕ → ℕ → ℕ
-vectorAddress v offsets e = (v .base + offsetFrom (v .extension) offsets (e * v .step) * 2 ^ v .scale) % 2 ^ 64
+vectorAddress v offsets e = addressFrom (v .base) (v .extension) (v .scale) offsets (e * v .step)
 
 unfoldable pub vectorActive : VectorPlan → List ℕ → ℕ → Bool
 vectorActive v governing e = bitAt governing (e * v .step)

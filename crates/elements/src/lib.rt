@@ -13,7 +13,7 @@ ghost use Rattle.encoding.specs.Layouts.{layoutOf};
 ghost use Rattle.elements.specs.Machine.{machine, register, bitAt};
 ghost use Rattle.elements.specs.Counter.{lowestSet, countIn};
 ghost use Rattle.elements.specs.Stores.{signed32, startOf};
-ghost use Rattle.elements.specs.Plans.{offsetBytes, offsetFrom, vectorAddress, vectorActive, stridedAddress, stridedActive, scatterPlan, quadwordPlan, stridedPlan};
+ghost use Rattle.elements.specs.Plans.{offsetBytes, offsetFrom, addressFrom, vectorAddress, vectorActive, stridedAddress, stridedActive, scatterPlan, quadwordPlan, stridedPlan};
 use encoding::Extension;
 use encoding::Layout;
 use encoding::QuadwordFields;
@@ -112,6 +112,22 @@ fn offset(extension: Extension, reg: &[u8], at: usize) -> u64
     }
 }
 
+// The address of the element whose offset starts at byte `at` of its register.
+pub fn address_from(
+    base: u64,
+    extension: Extension,
+    scale: u32,
+    offsets: &[u8],
+    at: usize,
+) -> u64
+    requires { ⌜ at + offsetBytes extension ≤ length (now offsets) ⌝ }
+    requires { ⌜ scale < 64 ⌝ }
+    ensures { λ r. ⌜ r ≡ addressFrom base extension scale (now (offsets .entry)) at ⌝ }
+{
+    let o = offset(extension, offsets, at);
+    std::num::wrapping_add_u64(base, scaled(o, scale))
+}
+
 // The address of element e of a scatter or quadword store.
 pub fn vector_address(v: VectorPlan, offsets: &[u8], e: usize) -> u64
     requires { ⌜ e * v .step + offsetBytes (v .extension) ≤ length (now offsets) ⌝ }
@@ -119,8 +135,7 @@ pub fn vector_address(v: VectorPlan, offsets: &[u8], e: usize) -> u64
     ensures { λ r. ⌜ r ≡ vectorAddress v (now (offsets .entry)) e ⌝ }
 {
     let extension = v.extension;
-    let o = offset(extension, offsets, e * v.step);
-    std::num::wrapping_add_u64(v.base, scaled(o, v.scale))
+    address_from(v.base, extension, v.scale, offsets, e * v.step)
 }
 
 // Whether element e of a scatter or quadword store is active.

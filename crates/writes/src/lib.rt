@@ -1,6 +1,7 @@
 // Little-endian numbers in lent bytes, bytes copied, and the window's tests. The crate's laws of byte writes stand in proofs/.
 ghost use mathlib.Core.Path.{_≡_};
-ghost use Prim.Native.Nat.{_+_, _-_, _^_, _≤_, _<_};
+ghost use mathlib.Core.Bool.{true, not};
+ghost use Prim.Native.Nat.{ℕ, _+_, _-_, _^_, _≤_, _<_};
 ghost use lib.ListN.{length, take, drop};
 ghost use lib.Seq.{paste};
 ghost use Rattle.writes.specs.LittleEndian.{leVal};
@@ -126,4 +127,22 @@ pub fn inside(base: u64, room: u64, start: u64, n: u64) -> bool
         return false;
     }
     true
+}
+
+// How many places of a window of `room` bytes leave room for n bytes from there on.
+pub fn limit_of(room: u64, n: u64) -> u64
+    requires { ⌜ room ≤ 65536 ⌝ }
+    ensures { λ r. ⌜ r ≡ room + 1 - n ⌝ }
+{
+    if room < n {
+        return 0;
+    }
+    room - n + 1
+}
+
+// Whether the bytes from `start` on don't lie in the window, by that limit: one comparison, since a place that wraps is large.
+pub fn is_past(base: u64, limit: u64, start: u64) -> bool
+    ensures { λ r. ⌜ ((L n : ℕ) → windowOk base L ≡ true → 1 ≤ n → limit ≡ L + 1 - n → r ≡ not (inWindow base L start n)) ⌝ }
+{
+    limit <= std::num::wrapping_sub_u64(start, base)
 }
