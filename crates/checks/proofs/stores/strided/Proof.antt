@@ -61,8 +61,8 @@ check-strided-requires : tie.Need-check-strided-requires
 check-strided-requires c κs =
     let a = c .before .before .before .before .before .before .before .before in
     let i = strided-in (a .args .f) (a .pre .0) in
-    let s = strided-sound (m a) (a .pre .1 .low) (a .pre .1 .high) (a .pre .1 .sixteen) (a .args .f) i in
-    (subst (λ (v : StridedPlan). StridedSound v (a .args .vb)) (sym (c .before .strided-plan .ensures)) s, a .pre .1 .long-z)
+    let s = strided-sound (m a) (a .pre .1 .0 .low) (a .pre .1 .0 .high) (a .pre .1 .0 .sixteen) (a .args .f) i in
+    (subst (λ (v : StridedPlan). StridedSound v (a .args .vb)) (sym (c .before .strided-plan .ensures)) s, (a .pre .1 .0 .long-z, a .pre .1 .1))
 
 returns-3 : tie.Need-returns-3
 returns-3 c =
