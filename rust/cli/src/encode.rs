@@ -6,7 +6,7 @@ use crate::command::{Command, Failure, Report};
 use crate::json::Json;
 use crate::numbers::hexadecimal;
 use crate::{fields, verdicts};
-use starshackle::{Refusal, Store};
+use starshackle::{Refusal, Store, Verdict};
 
 pub const COMMAND: Command = Command {
     name: "encode",
@@ -46,13 +46,13 @@ fn run(arguments: &Arguments) -> Result<Report, Failure> {
 fn text(outcome: &Result<u32, Refusal>) -> String {
     match outcome {
         Ok(word) => hexadecimal(*word),
-        Err(refusal) => verdicts::text(*refusal),
+        Err(refusal) => refusal.verdict().to_string(),
     }
 }
 
 fn json(outcome: &Result<u32, Refusal>) -> Json {
     let mut members = vec![("word", outcome.ok().map(hexadecimal).into())];
-    members.extend(verdicts::members(outcome));
+    members.extend(verdicts::members(Verdict::of(outcome)));
     Json::Object(members)
 }
 

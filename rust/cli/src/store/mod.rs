@@ -10,8 +10,7 @@ use crate::command::Failure;
 use crate::{fields, input, numbers};
 use lines::{is, lines, Line};
 use names::Subject;
-use starshackle::run::{elements, Flags, Machine};
-use starshackle::{Refusal, Store};
+use starshackle::{elements, Flags, Machine, Refusal, Store};
 
 /// What such a file is, for messages.
 pub const EXPECTED: &str = "a text that describes a store";
@@ -46,14 +45,12 @@ impl Registers {
 
     /// Registers of 0. For a length that the model refuses there are none.
     fn zero(vb: usize) -> Registers {
-        let empty = Machine { vb, flags: Flags(0), x: [0; 31], sp: 0, z: &[], p: &[] };
-        let length = if elements(&empty, 0) == Err(BAD_LENGTH) { 0 } else { vb };
+        let empty = Machine { vb, ..Machine::default() };
+        let length = if elements(&empty, 0) == Err(Refusal::Length) { 0 } else { vb };
         let (z, p) = (vec![0; 32 * length], vec![0; 2 * length]);
-        Registers { vb, flags: Flags(0), x: [0; 31], sp: 0, z, p }
+        Registers { vb, flags: Flags::default(), x: [0; 31], sp: 0, z, p }
     }
 }
-
-const BAD_LENGTH: Refusal = Refusal(1);
 
 /// The model refuses this window and longer ones, so that no longer one has to be lent.
 const LONGEST: u64 = 65_537;
