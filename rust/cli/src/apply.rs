@@ -3,7 +3,7 @@
 use crate::arguments::{unexpected, Arguments};
 use crate::command::{Command, Failure, Report};
 use crate::json::Json;
-use crate::output::Output;
+use crate::output::{self, Output};
 use crate::{input, numbers, show, verdicts};
 use starshackle::{apply, Applied, Refusal, Verdict, Window};
 
@@ -14,9 +14,9 @@ pub const COMMAND: Command = Command {
 usage: starshackle apply [--json] PATCH --base ADDRESS --memory FILE -o OUT
 
 Applies a patch to a window, whose first byte has the address and whose bytes are those of FILE,
-and writes the window's bytes to OUT, which may be FILE. Shows the verdict with its detail and how
-many runs and payload bytes the patch has. All this is the proved model's answer. Where the model
-refuses, OUT is left as it was.
+and writes the window's bytes to OUT, which may be FILE but not PATCH. Shows the verdict with its
+detail and how many runs and payload bytes the patch has. All this is the proved model's answer.
+Where the model refuses, OUT is left as it was.
 
 The address is decimal or 0x and hexadecimal.
 
@@ -38,6 +38,7 @@ fn run(arguments: &Arguments) -> Result<Report, Failure> {
     })?;
     let memory = arguments.value("--memory", bytes)?;
     let out = arguments.value("-o", "the file to write")?;
+    output::differs(out, file)?;
     let patch = input::bytes(file, show::EXPECTED)?;
     let mut memory = input::bytes(memory, bytes)?;
     let applied = apply(Window { base, memory: &mut memory }, &patch);

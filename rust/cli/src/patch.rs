@@ -3,7 +3,7 @@
 use crate::arguments::Arguments;
 use crate::command::{Command, Failure, Report};
 use crate::json::Json;
-use crate::output::Output;
+use crate::output::{self, Output};
 use crate::store::{self, Described};
 use crate::{numbers, verdicts};
 use starshackle::make::LARGEST;
@@ -18,7 +18,8 @@ usage: starshackle patch [--json] FILE -o OUT
 
 Writes the patch of a store to OUT: applying it leaves what running the store leaves, whatever the
 window's bytes are. Shows the verdict with its detail and counts and the patch's length.
-All this is the proved model's answer. Where the model refuses, OUT is left as it was.
+All this is the proved model's answer. Where the model refuses, OUT is left as it was. OUT may not
+be FILE.
 
 ",
         store_help!(),
@@ -37,6 +38,7 @@ Exit status: 0 done, 1 refused by the model, 2 bad usage, or a file that can't b
 fn run(arguments: &Arguments) -> Result<Report, Failure> {
     let file = arguments.operand(store::EXPECTED)?;
     let out = arguments.value("-o", "the file to write")?;
+    output::differs(out, file)?;
     let mut buffer = [0; LARGEST];
     let made = make(&store::read(file)?, &mut buffer);
     let patch = made.as_ref().ok().map(|made| &buffer[..made.length]);

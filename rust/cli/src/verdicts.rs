@@ -45,3 +45,22 @@ pub fn detail_json<T>(outcome: &Result<T, Refusal>) -> Json {
 pub fn members(verdict: Verdict) -> [(&'static str, Json); 2] {
     [("verdict", verdict.number().into()), ("verdict_name", verdict.name().into())]
 }
+
+#[cfg(test)]
+mod tests {
+    use super::*;
+
+    /// Refusals that no file brings too: 2, since registers come with their length, and 8, since
+    /// the buffer has room for every patch.
+    #[test]
+    fn refusals() {
+        let shown = |refusal: Refusal| text(&Err(refusal), |()| String::new());
+        let registers = "registers (verdict 2): the Z or P buffer has another size\n";
+        assert_eq!(shown(Refusal::Registers), format!("{registers}  nothing was written\n"));
+        let no_room = "no room (verdict 8): the buffer is shorter than the patch\n";
+        assert_eq!(shown(Refusal::NoRoom), format!("{no_room}  nothing was written\n"));
+        let outside = shown(Refusal::Outside { run: 2, address: 0x1005 });
+        assert!(outside.ends_with("\n  run 2 at 0x0000000000001005\n  nothing was written\n"));
+        assert_eq!(detail_json(&Err::<(), _>(Refusal::NoRoom)).to_string(), "null");
+    }
+}

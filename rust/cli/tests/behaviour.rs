@@ -1,6 +1,7 @@
 //! What the command line does beyond the answers in `tests/golden/`.
 
-use std::process::{Command, Output};
+use std::path::Path;
+use std::process::{Command, Output, Stdio};
 
 /// Words of all classes.
 const WORDS: &[&str] = &[
@@ -46,6 +47,42 @@ fn a_full_disk_is_told() {
     let output = command(&["decode", "A16F6000"]).stdout(full).output().unwrap();
     assert_eq!(output.status.code(), Some(2));
     assert!(String::from_utf8(output.stderr).unwrap().starts_with("starshackle: standard output:"));
+}
+
+/// As `| head -1` ends: the status is the answer's, and nothing is said.
+#[cfg(unix)]
+#[test]
+fn a_reader_that_leaves() {
+    for (word, status) in [("A16F6000", 0), ("E4208000", 1)] {
+        let mut decode = command(&["decode", word]);
+        let child = decode.stdout(closed_pipe()).stderr(Stdio::piped()).spawn().unwrap();
+        let output = child.wait_with_output().unwrap();
+        assert_eq!(output.status.code(), Some(status));
+        assert!(output.stderr.is_empty());
+    }
+}
+
+/// A pipe into a process that is gone.
+#[cfg(unix)]
+fn closed_pipe() -> std::process::ChildStdin {
+    let mut reader = Command::new("true").stdin(Stdio::piped()).spawn().unwrap();
+    let pipe = reader.stdin.take().unwrap();
+    reader.wait().unwrap();
+    pipe
+}
+
+/// No file is written that nobody was told of.
+#[cfg(unix)]
+#[test]
+fn a_reader_that_leaves_before_a_file_is_written() {
+    let out = Path::new(env!("CARGO_TARGET_TMPDIR")).join("unread.patch");
+    let store = concat!(env!("CARGO_MANIFEST_DIR"), "/../../examples/whole.store");
+    let mut patch = command(&["patch", store, "-o", out.to_str().unwrap()]);
+    let child = patch.stdout(closed_pipe()).stderr(Stdio::piped()).spawn().unwrap();
+    let output = child.wait_with_output().unwrap();
+    assert_eq!(output.status.code(), Some(2));
+    assert!(String::from_utf8(output.stderr).unwrap().starts_with("starshackle: standard output:"));
+    assert!(!out.exists());
 }
 
 #[cfg(unix)]
