@@ -6,8 +6,7 @@ use crate::json::Json;
 use crate::output::{self, Output};
 use crate::store::{self, Described};
 use crate::{numbers, verdicts};
-use starshackle::make::LARGEST;
-use starshackle::{make_patch, Made, Refusal, Verdict};
+use starshackle::{make_patch, Made, Refusal, Verdict, LARGEST_STORE_PATCH};
 
 pub const COMMAND: Command = Command {
     name: "patch",
@@ -39,7 +38,7 @@ fn run(arguments: &Arguments) -> Result<Report, Failure> {
     let file = arguments.operand(store::EXPECTED)?;
     let out = arguments.value("-o", "the file to write")?;
     output::differs(out, file)?;
-    let mut buffer = [0; LARGEST];
+    let mut buffer = [0; LARGEST_STORE_PATCH];
     let made = make(&store::read(file)?, &mut buffer);
     let patch = made.as_ref().ok().map(|made| &buffer[..made.length]);
     let text = if arguments.json { json(&made, patch) } else { text(&made) };

@@ -76,3 +76,12 @@ pub type Answer = [u64; 5];
 
 /// The entry of an encoder's [`Answer`] that holds the word.
 pub const WORD: usize = 4;
+
+/// No store's patch is longer, in bytes: a buffer for [`make_patch`] with room for all.
+pub const LARGEST_STORE_PATCH: usize = 1_040;
+
+/// No patch is longer, in bytes.
+pub const LARGEST_PATCH: usize = 1_796;
+
+/// No window is longer, in bytes.
+pub const LARGEST_WINDOW: usize = 65_536;

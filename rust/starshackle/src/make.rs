@@ -1,10 +1,7 @@
 //! Making a store's patch.
 
 use crate::run::Machine;
-use crate::{make_patch_numbers, Patch, Refusal};
-
-/// A buffer of this length has room for the patch of every store.
-pub const LARGEST: usize = 1_040;
+use crate::{make_patch_numbers, Patch, Refusal, LARGEST_STORE_PATCH};
 
 /// What a patch that was made is.
 #[derive(Clone, Copy, Debug, PartialEq, Eq, Hash)]
@@ -75,7 +72,7 @@ impl Patch {
         length: u64,
         word: u32,
     ) -> Result<Patch, Refusal> {
-        let mut buffer = vec![0; LARGEST];
+        let mut buffer = vec![0; LARGEST_STORE_PATCH];
         let made = make_patch(machine, base, length, word, &mut buffer)?;
         buffer.truncate(made.length);
         Ok(Patch::made(buffer))
@@ -116,11 +113,11 @@ mod tests {
         let first = z([0xA1, 0xA2, 0xA3, 0xA4], [0, 1, 1, 5]);
         let second = z([0xA3, 0xA1, 0x00, 0xA4], [1, 0, 5, 5]);
         for z in [first, second] {
-            let mut patch = [0x77; LARGEST];
+            let mut patch = [0x77; LARGEST_STORE_PATCH];
             let made = make_patch(&machine(&z), 0x1000, 8, SCATTER, &mut patch);
             assert_eq!(made, Ok(Made { elements: 4, bytes: 4, length: PATCH.len() }));
             assert_eq!(patch[..PATCH.len()], PATCH);
-            assert_eq!(patch[PATCH.len()..], [0x77; LARGEST - PATCH.len()]);
+            assert_eq!(patch[PATCH.len()..], [0x77; LARGEST_STORE_PATCH - PATCH.len()]);
             let mut memory = [0; 8];
             let window = Window { base: 0x1000, memory: &mut memory };
             let applied = apply(window, &patch[..PATCH.len()]);

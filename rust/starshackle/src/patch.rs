@@ -4,9 +4,6 @@ use crate::{apply_numbers, judge_numbers, Refusal, Verdict, Window};
 use std::error::Error;
 use std::fmt::{self, Display, Formatter};
 
-/// No patch is longer.
-pub const LONGEST: usize = 1_796;
-
 /// What bytes that are a patch have in them.
 #[derive(Clone, Copy, Debug, PartialEq, Eq, Hash)]
 pub struct Judged {

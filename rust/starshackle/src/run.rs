@@ -89,7 +89,7 @@ pub struct Machine<'a> {
 pub struct Window<'a> {
     /// The address of the first byte.
     pub base: u64,
-    /// The bytes, at most 65,536.
+    /// The bytes, at most [`LARGEST_WINDOW`](crate::LARGEST_WINDOW).
     pub memory: &'a mut [u8],
 }
 

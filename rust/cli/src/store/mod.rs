@@ -10,7 +10,7 @@ use crate::command::Failure;
 use crate::{fields, input, numbers};
 use lines::{is, lines, Line};
 use names::Subject;
-use starshackle::{elements, Flags, Machine, Refusal, Store};
+use starshackle::{elements, Flags, Machine, Refusal, Store, LARGEST_WINDOW};
 
 /// What such a file is, for messages.
 pub const EXPECTED: &str = "a text that describes a store";
@@ -53,7 +53,7 @@ impl Registers {
 }
 
 /// The model refuses this window and longer ones, so that no longer one has to be lent.
-const LONGEST: u64 = 65_537;
+const LONGEST: u64 = LARGEST_WINDOW as u64 + 1;
 
 /// The flags by name.
 const FLAGS: &[(&str, Flags)] = &[
