@@ -1,5 +1,6 @@
 //! What the command line does beyond the answers in `tests/golden/`.
 
+use std::fs;
 use std::path::Path;
 use std::process::{Command, Output, Stdio};
 
@@ -36,6 +37,19 @@ fn encode_takes_what_decode_gives() {
         let encoded = text_of(command(&["encode"]).args(pairs(&answer)).output().unwrap());
         assert_eq!(encoded, format!("{word}\n"));
     }
+}
+
+/// The README's copy is true, but for the line of assembly, which it leaves out.
+#[test]
+fn the_readme_shows_the_first_answer() {
+    let root = Path::new(env!("CARGO_MANIFEST_DIR")).join("../..");
+    let readme = fs::read_to_string(root.join("README.md")).unwrap();
+    let mut run = command(&["run", "examples/whole.store"]);
+    let answer = text_of(run.current_dir(root).output().unwrap());
+    let proved = answer.lines().filter(|line| !line.contains("(not proved)"));
+    let block: String =
+        proved.map(|line| format!("    {line}").trim_end().to_string() + "\n").collect();
+    assert!(readme.contains(&block), "{block}");
 }
 
 #[cfg(target_os = "linux")]
