@@ -1,6 +1,6 @@
 //! The time that calls take.
 
-use crate::reference::DONE;
+use crate::verdicts::DONE;
 use std::time::{Duration, Instant};
 
 /// Samples of which the median is taken.

@@ -1,0 +1,69 @@
+//! Making a store's patch, from an ordered map of byte writes.
+
+use super::check_elements;
+use super::refusal::{answered, Done, Refusal};
+use super::store::{Element, Machine, Plan};
+use crate::verdicts::{RUN_MARK, TRAILER_MARK};
+use starshackle::Answer;
+use std::collections::BTreeMap;
+
+/// As the model's, with the same arguments.
+#[inline(never)]
+#[allow(clippy::too_many_arguments)]
+pub fn make_patch(
+    vb: usize,
+    flags: u64,
+    x: &[u64; 31],
+    sp: u64,
+    z: &[u8],
+    p: &[u8],
+    base: u64,
+    length: u64,
+    word: u32,
+    patch: &mut [u8],
+    answer: &mut Answer,
+) -> u64 {
+    let machine = Machine { vb, flags, x, sp, z, p };
+    answered(try_make(machine, (base, length), word, patch), answer)
+}
+
+fn try_make(
+    machine: Machine,
+    window: (u64, u64),
+    word: u32,
+    patch: &mut [u8],
+) -> Result<Done, Refusal> {
+    let (plan, window) = Plan::new(machine, window, word)?;
+    check_elements(&plan, &window)?;
+    let mut writes = BTreeMap::new();
+    let mut done = Done::default();
+    for Element { address, bytes, .. } in plan.elements().filter(|element| element.active) {
+        writes.extend((address..=u64::MAX).zip(bytes.iter().copied()));
+        done.parts += 1;
+        done.bytes += bytes.len();
+    }
+    let string = encoded(&writes);
+    done.length = string.len();
+    patch.get_mut(..string.len()).ok_or(Refusal::NoRoom)?.copy_from_slice(&string);
+    Ok(done)
+}
+
+fn encoded(writes: &BTreeMap<u64, u8>) -> Vec<u8> {
+    let mut runs: Vec<(u64, Vec<u8>)> = Vec::new();
+    for (&address, &byte) in writes {
+        match runs.last_mut() {
+            Some((start, bytes)) if *start + bytes.len() as u64 == address => bytes.push(byte),
+            _ => runs.push((address, vec![byte])),
+        }
+    }
+    let mut string = Vec::new();
+    for (start, bytes) in &runs {
+        string.extend(RUN_MARK);
+        string.extend(start.to_le_bytes());
+        string.extend((bytes.len() as u16).to_le_bytes());
+        string.extend(bytes);
+    }
+    string.extend(TRAILER_MARK);
+    string.extend((runs.len() as u16).to_le_bytes());
+    string
+}
