@@ -53,7 +53,8 @@ pub fn agree(case: &Case) {
 impl Aim {
     /// The aim, and whether the ratios reach it.
     fn text(&self, to_idiomatic: f64, to_hand: f64) -> String {
-        let reached = to_idiomatic <= self.idiomatic && self.hand.map_or(true, |hand| to_hand <= hand);
+        let reached =
+            to_idiomatic <= self.idiomatic && self.hand.map_or(true, |hand| to_hand <= hand);
         let aim = match self.hand {
             Some(hand) => format!("hand {hand}"),
             None => format!("idiomatic {}", self.idiomatic),

@@ -4,7 +4,9 @@ use super::checks::{fault, Lent};
 use super::decode::{field, NONE, SXTW};
 use starshackle::Answer;
 
-/// Elements of `ESIZE` bytes, of which `SIZE` are stored, at offsets that are extended so.
+/// Elements of `ESIZE` bytes, of which `SIZE` are stored, at offsets that are extended so. What is
+/// cold takes them by value, so that they need not lie in memory where it isn't called.
+#[derive(Clone, Copy)]
 pub struct Lanes<'a, const ESIZE: usize, const SIZE: usize, const EXTENSION: u8> {
     mask: &'a [u8],
     offsets: &'a [u8],
@@ -17,12 +19,11 @@ pub struct Lanes<'a, const ESIZE: usize, const SIZE: usize, const EXTENSION: u8>
     base: u64,
 }
 
-/// An element: its number, whether it is active, its place in the window, what it writes.
-pub struct Lane<'a> {
+/// An element: its number, whether it is active, its place in the window.
+pub struct Lane {
     pub e: usize,
     pub active: bool,
     pub at: u64,
-    pub value: &'a [u8],
 }
 
 impl<'a, const ESIZE: usize, const SIZE: usize, const EXTENSION: u8>
@@ -53,24 +54,21 @@ impl<'a, const ESIZE: usize, const SIZE: usize, const EXTENSION: u8>
         Lanes { mask, offsets, values, scale, start: 0, room, base: lent.base }
     }
 
-    /// Calls `take` with each element. A group of elements has one bit or more of each byte of the
-    /// mask.
+    /// Calls `take` with each element.
     #[inline(always)]
-    pub fn each(&self, mut take: impl FnMut(Lane<'a>)) {
-        let group = ESIZE.max(8);
-        let each = group / ESIZE;
-        let masks = self.mask.chunks_exact(group / 8);
-        let offsets = self.offsets.chunks_exact(group);
-        let values = self.values.chunks_exact(group);
-        for (number, ((mask, offsets), values)) in masks.zip(offsets).zip(values).enumerate() {
-            for k in 0..each {
-                let active = mask[0] >> (k * ESIZE) & 1 == 1;
-                let offset = extended::<EXTENSION>(&offsets[k * ESIZE..]);
-                let at = self.start.wrapping_add(offset << self.scale);
-                let value = &values[k * ESIZE..][..SIZE];
-                take(Lane { e: number * each + k, active, at, value });
-            }
+    pub fn each(&self, mut take: impl FnMut(Lane)) {
+        for (e, offset) in self.offsets.chunks_exact(ESIZE).enumerate() {
+            let bit = e * ESIZE;
+            let active = self.mask[bit / 8] >> (bit % 8) & 1 == 1;
+            let at = self.start.wrapping_add(extended::<EXTENSION>(offset) << self.scale);
+            take(Lane { e, active, at });
         }
+    }
+
+    /// What an element writes.
+    #[inline(always)]
+    pub fn value(&self, e: usize) -> &'a [u8] {
+        &self.values[e * ESIZE..][..SIZE]
     }
 
     /// Whether an element doesn't fit into the window at this place.
@@ -80,7 +78,7 @@ impl<'a, const ESIZE: usize, const SIZE: usize, const EXTENSION: u8>
     }
 
     #[cold]
-    fn any_active(&self) -> bool {
+    fn any_active(self) -> bool {
         let mut any = false;
         self.each(|lane| any |= lane.active);
         any
@@ -88,7 +86,7 @@ impl<'a, const ESIZE: usize, const SIZE: usize, const EXTENSION: u8>
 
     /// Tells the lowest active element outside the window, of which there is one.
     #[cold]
-    pub fn fault(&self, answer: &mut Answer) -> u64 {
+    pub fn fault(self, answer: &mut Answer) -> u64 {
         let mut first = None;
         self.each(|lane| {
             if lane.active && self.is_outside(lane.at) {

@@ -131,8 +131,7 @@ impl Making<'_> {
             }
             let place = from + HEAD + (at - start);
             places[key.element() % MOST] = place as u16;
-            self.patch[place..][..SIZE]
-                .copy_from_slice(&values[key.element() * ESIZE..][..SIZE]);
+            self.patch[place..][..SIZE].copy_from_slice(&values[key.element() * ESIZE..][..SIZE]);
             (to, end) = (place + SIZE, at + SIZE);
         }
         if overlap && SIZE > 1 {

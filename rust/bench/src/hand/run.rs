@@ -43,7 +43,7 @@ impl Task for Running<'_> {
         }
         lanes.each(|lane| {
             if lane.active {
-                self.0[lane.at as usize..][..SIZE].copy_from_slice(lane.value);
+                self.0[lane.at as usize..][..SIZE].copy_from_slice(lanes.value(lane.e));
                 active += 1;
             }
         });

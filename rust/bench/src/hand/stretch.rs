@@ -8,6 +8,7 @@ use starshackle::Answer;
 pub const SIZE: usize = 8;
 
 /// A strided store's active elements.
+#[derive(Clone, Copy)]
 pub struct Stretch<'a> {
     vb: usize,
     z: &'a [u8],
@@ -41,7 +42,7 @@ impl<'a> Stretch<'a> {
         let (first, step) = (row.register(word), 16 / registers);
         let stretch = Stretch { vb, z: lent.z, first, step, registers, low, high, start };
         match low < high && stretch.is_outside(lent.length, high - low) {
-            true => Err(stretch.fault(lent, answer)),
+            true => Err(stretch.fault(*lent, answer)),
             false => Ok(stretch),
         }
     }
@@ -54,7 +55,7 @@ impl<'a> Stretch<'a> {
     }
 
     #[cold]
-    fn fault(&self, lent: &Lent, answer: &mut Answer) -> u64 {
+    fn fault(self, lent: Lent, answer: &mut Answer) -> u64 {
         let room = (lent.length + 1).saturating_sub(SIZE as u64);
         let at = |e: usize| self.start.wrapping_add((e * SIZE) as u64);
         let mut elements = self.low / SIZE..self.high / SIZE;

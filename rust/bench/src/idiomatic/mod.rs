@@ -50,12 +50,7 @@ pub fn run(
     answered(try_run(machine, base, memory, word), answer)
 }
 
-fn try_run(
-    machine: Machine,
-    base: u64,
-    memory: &mut [u8],
-    word: u32,
-) -> Result<Done, Refusal> {
+fn try_run(machine: Machine, base: u64, memory: &mut [u8], word: u32) -> Result<Done, Refusal> {
     let (plan, window) = Plan::new(machine, (base, memory.len() as u64), word)?;
     check_elements(&plan, &window)?;
     let mut done = Done::default();

@@ -23,7 +23,11 @@ enum Active<'a> {
     /// Those whose first bit is set.
     Predicate(&'a [u8]),
     /// Those below the count, or the others, where this many bits of a number of bytes are dropped.
-    Counter { dropped: u32, count: usize, inverted: bool },
+    Counter {
+        dropped: u32,
+        count: usize,
+        inverted: bool,
+    },
 }
 
 /// A store that has elements.
@@ -152,7 +156,11 @@ impl<'a> Plan<'a> {
                 let register = register + e / each * (16 / registers);
                 let bytes = &self.machine.z(register)[e % each * 8..][..8];
                 let offset = self.index.wrapping_add(e as u64 * 8);
-                Element { active: self.active.at(e * 8), address: self.base.wrapping_add(offset), bytes }
+                Element {
+                    active: self.active.at(e * 8),
+                    address: self.base.wrapping_add(offset),
+                    bytes,
+                }
             }
             Form::Quadword => {
                 let base = number(&self.machine.z(self.store.base as usize)[e * 16..]);
