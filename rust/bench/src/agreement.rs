@@ -89,7 +89,7 @@ fn decoding() {
     let mut random = Random::new(2);
     for number in 0..WORDS {
         let class = &CLASSES[number as usize % CLASSES.len()];
-        let word = class.base | random.next() as u32 & class.free();
+        let word = class.base | random.number() as u32 & class.free();
         for word in [word, other_word(&mut random, class, word)] {
             let decode = |side: &Side| {
                 let mut fields = [GARBAGE; 8];

@@ -8,7 +8,7 @@ pub mod decoding;
 pub mod encoding;
 pub mod making;
 pub mod patches;
-pub mod patterns;
+mod patterns;
 pub mod random;
 pub mod reference;
 pub mod report;

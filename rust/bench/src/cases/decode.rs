@@ -22,7 +22,7 @@ pub fn cases() -> Vec<Case> {
 /// A word of any class; one in four isn't, or hardly.
 fn word(random: &mut Random) -> u32 {
     let class = &CLASSES[random.below(CLASSES.len())];
-    let word = class.base | random.next() as u32 & class.free();
+    let word = class.base | random.number() as u32 & class.free();
     match random.one_in(4) {
         true => other_word(random, class, word),
         false => word,

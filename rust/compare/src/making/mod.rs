@@ -94,7 +94,7 @@ impl<'a> Comparison<'a> {
 
     fn store(&mut self, number: u64) {
         // Others than the input's numbers, and the same in every run.
-        let mut random = Random::new(Random::new(number).next());
+        let mut random = Random::new(Random::new(number).number());
         let Case { input, length } = shapes::case(&mut random, number);
         let subject = Subject::new(number, &input, length);
         self.buffers(&mut random, &subject);
