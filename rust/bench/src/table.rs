@@ -3,62 +3,125 @@
 use crate::cases::{Aim, Case, Group};
 use crate::sides::SIDES;
 use crate::timing::medians;
+use crate::verdicts::DONE;
 
-/// The widest name.
-const NAME: usize = 44;
+/// The columns' widths.
+const WIDTHS: [usize; 7] = [44, 8, 10, 8, 11, 6, 18];
 
-/// Measures the cases and hands out line by line.
+/// How many cases of a call reach their aim.
+struct Tally {
+    call: &'static str,
+    reached: usize,
+    cases: usize,
+}
+
+/// Measures the cases and hands out the tables line by line, and how many aims are reached.
 pub fn tables(groups: &[Group], mut line: impl FnMut(&str)) {
-    for group in groups {
-        line("");
-        line(&head(group));
-        line(&format!("|{}|{}", "-".repeat(NAME + 2), "---|".repeat(6)));
-        for case in &group.cases {
-            line(&row(case));
+    let mut tallies = Vec::new();
+    for Group { call, unit, cases } in groups {
+        line(&head(&format!("{call}, ns a {unit}")));
+        line(&rule());
+        let mut reached = 0;
+        for case in cases {
+            let times = measured(case);
+            reached += usize::from(case.aim.is_reached(times));
+            line(&row(case, times));
         }
+        line("");
+        tallies.push(Tally { call, reached, cases: cases.len() });
     }
-}
-
-fn head(group: &Group) -> String {
-    let name = format!("{}, ns a {}", group.call, group.unit);
-    let sides = SIDES.iter().map(|side| side.name);
-    let others = ["/ idiomatic", "/ hand", "aim"];
-    let columns: Vec<&str> = sides.chain(others).collect();
-    format!("| {name:NAME$} | {} |", columns.join(" | "))
-}
-
-fn row(case: &Case) -> String {
-    agree(case);
-    let units = case.subject.units() as f64;
-    let [model, idiomatic, hand] =
-        medians([&SIDES[0], &SIDES[1], &SIDES[2]].map(|side| case.subject.repeated(side)))
-            .map(|time| time / units);
-    let aim = case.aim.text(model / idiomatic, model / hand);
-    format!(
-        "| {:NAME$} | {model:7.1} | {idiomatic:9.1} | {hand:7.1} | {:6.2} | {:6.2} | {aim} |",
-        case.name,
-        model / idiomatic,
-        model / hand
-    )
+    let text = |Tally { call, reached, cases }: &Tally| format!("{call} {reached} of {cases}");
+    let texts: Vec<String> = tallies.iter().map(text).collect();
+    line(&format!("Aims reached: {}.", texts.join(", ")));
 }
 
 /// All sides answer and leave the same.
 pub fn agree(case: &Case) {
-    let [model, idiomatic, hand] =
-        [&SIDES[0], &SIDES[1], &SIDES[2]].map(|side| case.subject.outcome(side));
-    assert!(model == idiomatic && model == hand, "{}: the sides agree", case.name);
-    assert_eq!(model.0, crate::verdicts::DONE, "{}: every call is done", case.name);
+    let [model, idiomatic, hand] = &SIDES;
+    let right = case.subject.outcome(model);
+    assert_eq!(right.0, DONE, "{}: the call is done", case.name);
+    for side in [idiomatic, hand] {
+        let same = case.subject.outcome(side) == right;
+        assert!(same, "{}: {} differs", case.name, side.name);
+    }
+}
+
+/// Nanoseconds of the sides.
+fn measured(case: &Case) -> [f64; 3] {
+    agree(case);
+    let [model, idiomatic, hand] = &SIDES;
+    let calls = [model, idiomatic, hand].map(|side| case.subject.repeated(side));
+    medians(calls).map(|time| time / case.subject.units() as f64)
 }
 
 impl Aim {
-    /// The aim, and whether the ratios reach it.
-    fn text(&self, to_idiomatic: f64, to_hand: f64) -> String {
-        let reached =
-            to_idiomatic <= self.idiomatic && self.hand.map_or(true, |hand| to_hand <= hand);
-        let aim = match self.hand {
+    fn is_reached(&self, [model, idiomatic, hand]: [f64; 3]) -> bool {
+        let by_hand = self.hand.map_or(true, |ratio| model <= ratio * hand);
+        by_hand && model <= self.idiomatic * idiomatic
+    }
+
+    fn text(&self) -> String {
+        match self.hand {
             Some(hand) => format!("hand {hand}"),
             None => format!("idiomatic {}", self.idiomatic),
-        };
-        format!("{aim}: {}", if reached { "yes" } else { "no" })
+        }
+    }
+}
+
+fn head(name: &str) -> String {
+    let [model, idiomatic, hand] = SIDES.map(|side| side.name.to_string());
+    let ratios = [&idiomatic, &hand].map(|other| format!("/ {other}"));
+    let [to_idiomatic, to_hand] = ratios;
+    let aim = "aim".to_string();
+    line(&[name.to_string(), model, idiomatic, hand, to_idiomatic, to_hand, aim])
+}
+
+fn rule() -> String {
+    let cells = WIDTHS.map(|width| "-".repeat(width + 2));
+    format!("|{}|", cells.join("|"))
+}
+
+fn row(case: &Case, times: [f64; 3]) -> String {
+    let [model, idiomatic, hand] = times;
+    let figures = times.map(|time| format!("{time:.1}"));
+    let [model_text, idiomatic_text, hand_text] = figures;
+    let [to_idiomatic, to_hand] =
+        [model / idiomatic, model / hand].map(|ratio| format!("{ratio:.2}"));
+    let reached = if case.aim.is_reached(times) { "yes" } else { "no" };
+    let aim = format!("{}: {reached}", case.aim.text());
+    let name = case.name.clone();
+    line(&[name, model_text, idiomatic_text, hand_text, to_idiomatic, to_hand, aim])
+}
+
+/// A line of a table: names to the left, figures to the right.
+fn line(cells: &[String; 7]) -> String {
+    let mut line = "|".to_string();
+    for (number, (cell, width)) in cells.iter().zip(WIDTHS).enumerate() {
+        let left = number == 0 || number == WIDTHS.len() - 1;
+        let cell = if left { format!("{cell:width$}") } else { format!("{cell:>width$}") };
+        line += &format!(" {cell} |");
+    }
+    line
+}
+
+#[cfg(test)]
+mod tests {
+    use super::*;
+
+    #[test]
+    fn aims() {
+        let hand = Aim { idiomatic: 1.0, hand: Some(1.5) };
+        assert!(hand.is_reached([15.0, 20.0, 10.0]));
+        assert!(!hand.is_reached([16.0, 20.0, 10.0]));
+        assert!(!hand.is_reached([15.0, 14.0, 10.0]));
+        let idiomatic = Aim { idiomatic: 0.2, hand: None };
+        assert!(idiomatic.is_reached([20.0, 100.0, 1.0]));
+        assert!(!idiomatic.is_reached([21.0, 100.0, 21.0]));
+        assert_eq!([hand.text(), idiomatic.text()], ["hand 1.5", "idiomatic 0.2"]);
+    }
+
+    #[test]
+    fn lines_are_as_long_as_each_other() {
+        assert_eq!(head("run, ns a call").len(), rule().len());
     }
 }

@@ -6,7 +6,7 @@ use std::time::{Duration, Instant};
 /// Samples of which the median is taken.
 pub const SAMPLES: usize = 41;
 /// How long a sample takes at least.
-const SAMPLE: Duration = Duration::from_millis(2);
+pub const SAMPLE: Duration = Duration::from_millis(2);
 
 /// Makes a call so often and tells how long that took.
 pub type Repeated<'a> = Box<dyn FnMut(u32) -> Duration + 'a>;
