@@ -4,9 +4,9 @@ use crate::verdicts::DONE;
 use std::time::{Duration, Instant};
 
 /// Samples of which the median is taken.
-pub const SAMPLES: usize = 41;
+pub const SAMPLES: usize = 101;
 /// How long a sample takes at least.
-pub const SAMPLE: Duration = Duration::from_millis(2);
+pub const SAMPLE: Duration = Duration::from_millis(1);
 
 /// Makes a call so often and tells how long that took.
 pub type Repeated<'a> = Box<dyn FnMut(u32) -> Duration + 'a>;

@@ -1,8 +1,9 @@
 //! Making a store's patch, from an ordered map of byte writes.
 
 use super::check_elements;
+use super::machine::Machine;
 use super::refusal::{answered, Done, Refusal};
-use super::store::{Element, Machine, Plan};
+use super::store::{Element, Plan};
 use crate::verdicts::{RUN_MARK, TRAILER_MARK};
 use starshackle::Answer;
 use std::collections::BTreeMap;

@@ -1,6 +1,8 @@
 //! Rust written plainly, as one would write it without a thought of speed or of slowness: every
 //! class and every verdict. Only making a patch allocates.
 
+mod active;
+mod machine;
 mod make;
 mod patch;
 mod refusal;
@@ -8,9 +10,11 @@ mod store;
 mod window;
 mod word;
 
+use crate::verdicts::{DONE, UNDEFINED};
+use machine::Machine;
 use refusal::{answered, Done, Refusal};
 use starshackle::{Answer, Fields};
-use store::{Element, Machine, Plan};
+use store::{Element, Plan};
 use window::Window;
 
 pub use make::make_patch;
@@ -22,11 +26,11 @@ pub fn decode(word: u32, fields: &mut Fields) -> u64 {
     match word::decoded(word) {
         Some((_, store)) => {
             *fields = store.into();
-            crate::verdicts::DONE
+            DONE
         }
         None => {
             *fields = [0; 8];
-            crate::verdicts::UNDEFINED
+            UNDEFINED
         }
     }
 }

@@ -1,34 +1,12 @@
 //! A store that is defined and legal, and its elements.
 
+use super::active::Active;
+use super::machine::Machine;
 use super::refusal::Refusal;
 use super::window::Window;
 use super::word::{decoded, Form};
 use starshackle::run::Flags;
 use starshackle::{Extension, Store};
-
-/// What a call is lent besides the window.
-#[derive(Clone, Copy)]
-pub struct Machine<'a> {
-    pub vb: usize,
-    pub flags: u64,
-    pub x: &'a [u64; 31],
-    pub sp: u64,
-    pub z: &'a [u8],
-    pub p: &'a [u8],
-}
-
-/// Which elements are active.
-enum Active<'a> {
-    None,
-    /// Those whose first bit is set.
-    Predicate(&'a [u8]),
-    /// Those below the count, or the others, where this many bits of a number of bytes are dropped.
-    Counter {
-        dropped: u32,
-        count: usize,
-        inverted: bool,
-    },
-}
 
 /// A store that has elements.
 pub struct Plan<'a> {
@@ -47,47 +25,6 @@ pub struct Element<'a> {
     pub address: u64,
     /// What it writes.
     pub bytes: &'a [u8],
-}
-
-impl<'a> Machine<'a> {
-    fn has(&self, flag: Flags) -> bool {
-        self.flags & flag.0 != 0
-    }
-
-    fn z(&self, register: usize) -> &'a [u8] {
-        &self.z[register * self.vb..][..self.vb]
-    }
-
-    fn p(&self, register: u64) -> &'a [u8] {
-        let bytes = self.vb / 8;
-        &self.p[register as usize * bytes..][..bytes]
-    }
-
-    /// Verdicts 1 and 2.
-    fn check(&self) -> Result<(), Refusal> {
-        if ![16, 32, 64, 128, 256].contains(&self.vb) {
-            return Err(Refusal::Length);
-        }
-        match self.z.len() == 32 * self.vb && self.p.len() == 2 * self.vb {
-            true => Ok(()),
-            false => Err(Refusal::Registers),
-        }
-    }
-
-    /// Verdicts 4 and 5.
-    fn allow(&self, form: Form) -> Result<(), Refusal> {
-        let outside_streaming = !self.has(Flags::STREAMING) || self.has(Flags::FA64);
-        let (feature, legal) = match form {
-            Form::Scatter { .. } => (Flags::SVE, outside_streaming),
-            Form::Strided { .. } => (Flags::SME2, self.has(Flags::STREAMING)),
-            Form::Quadword => (Flags::SVE2P1, outside_streaming),
-        };
-        match (self.has(feature), legal) {
-            (false, _) => Err(Refusal::Undefined),
-            (true, false) => Err(Refusal::Illegal),
-            (true, true) => Ok(()),
-        }
-    }
 }
 
 impl<'a> Plan<'a> {
@@ -146,27 +83,25 @@ impl<'a> Plan<'a> {
         let register = self.store.register as usize;
         match self.form {
             Form::Scatter { element, stored, scale, .. } => {
-                let offset = self.offset(e * element) << scale;
-                let address = self.base.wrapping_add(offset);
-                let bytes = &self.machine.z(register)[e * element..][..stored];
-                Element { active: self.active.at(e * element), address, bytes }
+                let from = e * element;
+                let address = self.base.wrapping_add(self.offset(from) << scale);
+                let bytes = &self.machine.z(register)[from..from + stored];
+                Element { active: self.active.at(from), address, bytes }
             }
             Form::Strided { registers, .. } => {
                 let each = self.machine.vb / 8;
                 let register = register + e / each * (16 / registers);
-                let bytes = &self.machine.z(register)[e % each * 8..][..8];
-                let offset = self.index.wrapping_add(e as u64 * 8);
-                Element {
-                    active: self.active.at(e * 8),
-                    address: self.base.wrapping_add(offset),
-                    bytes,
-                }
+                let from = e % each * 8;
+                let address = self.base.wrapping_add(self.index).wrapping_add(e as u64 * 8);
+                let bytes = &self.machine.z(register)[from..from + 8];
+                Element { active: self.active.at(e * 8), address, bytes }
             }
             Form::Quadword => {
-                let base = number(&self.machine.z(self.store.base as usize)[e * 16..]);
-                let bytes = &self.machine.z(register)[e * 16..][..16];
+                let from = e * 16;
+                let base = number(&self.machine.z(self.store.base as usize)[from..]);
                 let address = base.wrapping_add(self.index);
-                Element { active: self.active.at(e * 16), address, bytes }
+                let bytes = &self.machine.z(register)[from..from + 16];
+                Element { active: self.active.at(from), address, bytes }
             }
         }
     }
@@ -186,25 +121,4 @@ impl<'a> Plan<'a> {
 /// The doubleword at the start of some bytes.
 fn number(bytes: &[u8]) -> u64 {
     u64::from_le_bytes(bytes[..8].try_into().expect("eight bytes"))
-}
-
-impl<'a> Active<'a> {
-    fn counter(register: &[u8]) -> Active<'a> {
-        let counter = u16::from_le_bytes([register[0], register[1]]);
-        if counter & 0xF == 0 {
-            return Active::None;
-        }
-        let dropped = counter.trailing_zeros();
-        let count = usize::from(counter & 0x7FFF) >> (dropped + 1);
-        Active::Counter { dropped, count, inverted: counter >> 15 == 1 }
-    }
-
-    /// Whether the element is active that starts so many bytes behind the first.
-    fn at(&self, byte: usize) -> bool {
-        match *self {
-            Active::None => false,
-            Active::Predicate(bits) => bits[byte / 8] >> (byte % 8) & 1 == 1,
-            Active::Counter { dropped, count, inverted } => (byte >> dropped < count) != inverted,
-        }
-    }
 }
