@@ -1,6 +1,6 @@
 //! The figures in the document on performance.
 
-use crate::timing::{SAMPLE, SAMPLES};
+use crate::timing::{ROUNDS, SAMPLE};
 use std::{fs, io};
 
 /// From the crate's folder, at the time of building.
@@ -28,8 +28,8 @@ pub fn machine() -> String {
     let lines = information.lines().filter_map(|line| line.split_once(':'));
     let mut names = lines.filter(|(name, _)| name.trim() == "model name");
     let name = names.next().map_or("an unknown processor", |(_, value)| value.trim());
-    let least = SAMPLE.as_millis();
-    format!("Processor: {name}. Medians of {SAMPLES} samples of at least {least} ms each.")
+    let least = SAMPLE.as_micros();
+    format!("Processor: {name}. Medians of {ROUNDS} rounds, samples of at least {least} µs.")
 }
 
 #[cfg(test)]

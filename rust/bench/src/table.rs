@@ -2,7 +2,7 @@
 
 use crate::cases::{Aim, Case, Group};
 use crate::sides::SIDES;
-use crate::timing::medians;
+use crate::timing::{measured, Measured};
 use crate::verdicts::DONE;
 
 /// The columns' widths.
@@ -23,9 +23,9 @@ pub fn tables(groups: &[Group], mut line: impl FnMut(&str)) {
         line(&rule());
         let mut reached = 0;
         for case in cases {
-            let times = measured(case);
-            reached += usize::from(case.aim.is_reached(times));
-            line(&row(case, times));
+            let figures = figures(case);
+            reached += usize::from(case.aim.is_reached(figures.ratios));
+            line(&row(case, &figures));
         }
         line("");
         tallies.push(Tally { call, reached, cases: cases.len() });
@@ -46,18 +46,17 @@ pub fn agree(case: &Case) {
     }
 }
 
-/// Nanoseconds of the sides.
-fn measured(case: &Case) -> [f64; 3] {
+/// Measures the sides.
+fn figures(case: &Case) -> Measured<3> {
     agree(case);
     let [model, idiomatic, hand] = &SIDES;
     let calls = [model, idiomatic, hand].map(|side| case.subject.repeated(side));
-    medians(calls).map(|time| time / case.subject.units() as f64)
+    measured(calls)
 }
 
 impl Aim {
-    fn is_reached(&self, [model, idiomatic, hand]: [f64; 3]) -> bool {
-        let by_hand = self.hand.map_or(true, |ratio| model <= ratio * hand);
-        by_hand && model <= self.idiomatic * idiomatic
+    fn is_reached(&self, [_, to_idiomatic, to_hand]: [f64; 3]) -> bool {
+        to_idiomatic <= self.idiomatic && self.hand.map_or(true, |hand| to_hand <= hand)
     }
 
     fn text(&self) -> String {
@@ -81,16 +80,13 @@ fn rule() -> String {
     format!("|{}|", cells.join("|"))
 }
 
-fn row(case: &Case, times: [f64; 3]) -> String {
-    let [model, idiomatic, hand] = times;
-    let figures = times.map(|time| format!("{time:.1}"));
-    let [model_text, idiomatic_text, hand_text] = figures;
-    let [to_idiomatic, to_hand] =
-        [model / idiomatic, model / hand].map(|ratio| format!("{ratio:.2}"));
-    let reached = if case.aim.is_reached(times) { "yes" } else { "no" };
+fn row(case: &Case, figures: &Measured<3>) -> String {
+    let units = case.subject.units() as f64;
+    let [model, idiomatic, hand] = figures.times.map(|time| format!("{:.1}", time / units));
+    let [_, to_idiomatic, to_hand] = figures.ratios.map(|ratio| format!("{ratio:.2}"));
+    let reached = if case.aim.is_reached(figures.ratios) { "yes" } else { "no" };
     let aim = format!("{}: {reached}", case.aim.text());
-    let name = case.name.clone();
-    line(&[name, model_text, idiomatic_text, hand_text, to_idiomatic, to_hand, aim])
+    line(&[case.name.clone(), model, idiomatic, hand, to_idiomatic, to_hand, aim])
 }
 
 /// A line of a table: names to the left, figures to the right.
@@ -111,12 +107,12 @@ mod tests {
     #[test]
     fn aims() {
         let hand = Aim { idiomatic: 1.0, hand: Some(1.5) };
-        assert!(hand.is_reached([15.0, 20.0, 10.0]));
-        assert!(!hand.is_reached([16.0, 20.0, 10.0]));
-        assert!(!hand.is_reached([15.0, 14.0, 10.0]));
+        assert!(hand.is_reached([1.0, 0.75, 1.5]));
+        assert!(!hand.is_reached([1.0, 0.75, 1.6]));
+        assert!(!hand.is_reached([1.0, 1.1, 1.5]));
         let idiomatic = Aim { idiomatic: 0.2, hand: None };
-        assert!(idiomatic.is_reached([20.0, 100.0, 1.0]));
-        assert!(!idiomatic.is_reached([21.0, 100.0, 21.0]));
+        assert!(idiomatic.is_reached([1.0, 0.2, 20.0]));
+        assert!(!idiomatic.is_reached([1.0, 0.21, 1.0]));
         assert_eq!([hand.text(), idiomatic.text()], ["hand 1.5", "idiomatic 0.2"]);
     }
 
