@@ -9,10 +9,10 @@
 #include <string.h>
 #include <time.h>
 
-enum { SAMPLES = 41, WINDOW = 4096, STEP = 24, LANES = 32, LOOPS = 3 };
+enum { SAMPLES = 501, TRIALS = 5, WINDOW = 4096, STEP = 24, LANES = 32, LOOPS = 3 };
 
 /* How long a sample takes at least, in nanoseconds. */
-static const uint64_t SAMPLE = 2000000;
+static const uint64_t SAMPLE = 200000;
 
 static uint64_t offsets[LANES], values[LANES];
 static uint8_t window[WINDOW], all[LANES], half[LANES], none[LANES];
@@ -82,12 +82,21 @@ static void prepare(uint64_t lanes)
     }
 }
 
+/* Lets a loop be long enough several times: once may be a disturbance. */
+static void lengthen(struct loop *loop)
+{
+    for (int trial = 0; trial < TRIALS; trial++)
+        if (loop->run(loop->mask, loop->count) < SAMPLE) {
+            loop->count *= 2;
+            trial = -1;
+        }
+}
+
 /* Takes the loops' samples in turn and sorts them. */
 static void measure(struct loop *loops)
 {
     for (int k = 0; k < LOOPS; k++)
-        while (loops[k].run(loops[k].mask, loops[k].count) < SAMPLE)
-            loops[k].count *= 2;
+        lengthen(&loops[k]);
     for (int sample = 0; sample < SAMPLES; sample++)
         for (int k = 0; k < LOOPS; k++)
             loops[k].samples[sample] = (double)loops[k].run(loops[k].mask, loops[k].count) / (double)loops[k].count;
