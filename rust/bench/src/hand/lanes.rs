@@ -57,12 +57,25 @@ impl<'a, const ESIZE: usize, const SIZE: usize, const EXTENSION: u8>
     /// Calls `take` with each element.
     #[inline(always)]
     pub fn each(&self, mut take: impl FnMut(Lane)) {
-        for (e, offset) in self.offsets.chunks_exact(ESIZE).enumerate() {
-            let bit = e * ESIZE;
-            let active = self.mask[bit / 8] >> (bit % 8) & 1 == 1;
-            let at = self.start.wrapping_add(extended::<EXTENSION>(offset) << self.scale);
-            take(Lane { e, active, at });
+        if ESIZE < 8 {
+            for (number, offsets) in self.offsets.chunks_exact(8).enumerate() {
+                let (bits, first) = (self.mask[number], number * (8 / ESIZE));
+                for (k, offset) in offsets.chunks_exact(ESIZE).enumerate() {
+                    take(self.lane(first + k, bits >> (k * ESIZE), offset));
+                }
+            }
+        } else {
+            for (e, offset) in self.offsets.chunks_exact(ESIZE).enumerate() {
+                take(self.lane(e, self.mask[e * (ESIZE / 8)], offset));
+            }
         }
+    }
+
+    /// An element by its number, the bits of the mask from its own on, and its offset.
+    #[inline(always)]
+    fn lane(&self, e: usize, bits: u8, offset: &[u8]) -> Lane {
+        let at = self.start.wrapping_add(extended::<EXTENSION>(offset) << self.scale);
+        Lane { e, active: bits & 1 == 1, at }
     }
 
     /// What an element writes.

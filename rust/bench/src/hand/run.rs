@@ -43,7 +43,8 @@ impl Task for Running<'_> {
         }
         lanes.each(|lane| {
             if lane.active {
-                self.0[lane.at as usize..][..SIZE].copy_from_slice(lanes.value(lane.e));
+                let at = usize::from(lane.at as u16); // no window is longer than 65,536 bytes
+                self.0[at..at + SIZE].copy_from_slice(lanes.value(lane.e));
                 active += 1;
             }
         });

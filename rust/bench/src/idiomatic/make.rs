@@ -4,7 +4,8 @@ use super::check_elements;
 use super::machine::Machine;
 use super::refusal::{answered, Done, Refusal};
 use super::store::{Element, Plan};
-use crate::verdicts::{RUN_MARK, TRAILER_MARK};
+use crate::verdicts::{HEAD, RUN_MARK, TRAILER_MARK};
+use starshackle::make::LARGEST;
 use starshackle::Answer;
 use std::collections::BTreeMap;
 
@@ -50,21 +51,29 @@ fn try_make(
 }
 
 fn encoded(writes: &BTreeMap<u64, u8>) -> Vec<u8> {
-    let mut runs: Vec<(u64, Vec<u8>)> = Vec::new();
+    let mut string = Vec::with_capacity(LARGEST);
+    let (mut runs, mut head, mut last) = (0u16, 0, None);
     for (&address, &byte) in writes {
-        match runs.last_mut() {
-            Some((start, bytes)) if *start + bytes.len() as u64 == address => bytes.push(byte),
-            _ => runs.push((address, vec![byte])),
+        if last.map_or(true, |last| address - last > 1) {
+            put_length(&mut string, head);
+            runs += 1;
+            head = string.len();
+            string.extend(RUN_MARK);
+            string.extend(address.to_le_bytes());
+            string.extend([0, 0]);
         }
+        string.push(byte);
+        last = Some(address);
     }
-    let mut string = Vec::new();
-    for (start, bytes) in &runs {
-        string.extend(RUN_MARK);
-        string.extend(start.to_le_bytes());
-        string.extend((bytes.len() as u16).to_le_bytes());
-        string.extend(bytes);
-    }
+    put_length(&mut string, head);
     string.extend(TRAILER_MARK);
-    string.extend((runs.len() as u16).to_le_bytes());
+    string.extend(runs.to_le_bytes());
     string
+}
+
+/// Writes the length of the run that ends the string, where there is one.
+fn put_length(string: &mut [u8], head: usize) {
+    if let Some(length) = string.len().checked_sub(head + HEAD) {
+        string[head + HEAD - 2..head + HEAD].copy_from_slice(&(length as u16).to_le_bytes());
+    }
 }
