@@ -1,7 +1,7 @@
 //! The sides agree: on the random stores and strings that the model is compared on, and on every case
 //! that is measured.
 
-use crate::cases::groups;
+use crate::cases::{groups, Outcome};
 use crate::sides::{Side, SIDES};
 use crate::table::agree;
 use compare::making::{self, Make};
@@ -10,16 +10,12 @@ use compare::random::Random;
 use compare::report::Report;
 use compare::running::classes::CLASSES;
 use compare::running::generate::{self, other_word};
+use compare::GARBAGE;
 use starshackle::run::Window;
 
-/// What a call answers and leaves.
-type Outcome = (u64, Vec<u64>, Vec<u8>);
-
-const STORES: u64 = 60_000;
-const STRINGS: u64 = 60_000;
+const STORES: u64 = 40_000;
+const STRINGS: u64 = 40_000;
 const WORDS: u64 = 2_000_000;
-/// What every answer holds before a call.
-const GARBAGE: u64 = 0xD1D2_D3D4_D5D6_D7D8;
 
 /// Calls every side and compares the others with the model; tells what it answers.
 fn same(call: impl Fn(&Side) -> Outcome, input: impl Fn() -> String) -> Outcome {
@@ -53,9 +49,10 @@ fn running() {
     assert!(verdicts[..8].iter().all(|&count| count > 100), "{verdicts:?}");
 }
 
+/// With the independent implementation, in buffers too short, exact and longer, as the model is.
 #[test]
 fn making_patches() {
-    for side in &SIDES {
+    for side in &SIDES[1..] {
         let report = Report::default();
         let make: &Make = &side.make_patch;
         making::compare(&report, make, STORES, 1);
