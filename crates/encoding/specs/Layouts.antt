@@ -1,5 +1,5 @@
 -- What the code keeps of a class, beside mask and base word. For the contracts of its own functions. Assumes nothing.
-use Prim.Native.Nat.{ℕ, _/_, _^_, _≤_, _<_}
+use Prim.Native.Nat.{ℕ, _*_, _/_, _%_, _^_, _≤_, _<_}
 use Rattle.encoding.specs.Classes.{Rm, imm4, xs, flag, Class, width}
 use Rattle.encoding.specs.Decoding.{ztOf}
 use Rattle.encoding.specs.declared.Layout.{Layout}
@@ -17,6 +17,10 @@ layoutOf c =
       size = c .msize / 8;
       scale = c .scale;
     }
+
+-- hexadecimal digit k of a number, counted from the right
+abbrev pub digitAt : ℕ → ℕ → ℕ
+digitAt x k = x / 2 ^ (4 * k) % 16
 
 -- how large its numbers are
 pub record Bounded (l : Layout) : Type 0 where

@@ -341,5 +341,5 @@ pub fn layout_for(class: u8, feature: u32) -> Layout
     ensures is { λ r. ⌜ r ≡ layoutOf (classAt (rowOf class feature)) ⌝ }
     ensures bounded { λ r. ⌜ Bounded r ⌝ }
 {
-    layout_of(row_of(class, feature))
+    layout_of((class - 1) as usize)
 }

@@ -1,10 +1,10 @@
 // The code's tables of the classes, and how a class is found in them.
 ghost use mathlib.Core.Path.{_≡_};
-ghost use Prim.Native.Nat.{_<_, _≤_};
+ghost use Prim.Native.Nat.{_^_, _<_, _≤_};
 ghost use Rattle.encoding.specs.Classes.{classAt};
 ghost use Rattle.encoding.specs.Decoding.{indexOf};
 ghost use Rattle.encoding.specs.Encoding.{rowOf};
-ghost use Rattle.encoding.specs.Layouts.{layoutOf, Bounded};
+ghost use Rattle.encoding.specs.Layouts.{layoutOf, digitAt, Bounded};
 use super::Layout;
 
 pub const CLASSES: usize = 12;
@@ -25,23 +25,26 @@ const ROWS: [[u32; 2]; 12] = [
     [0xFFE0E000, 0xE4202000],
 ];
 
-// Each class as one number, by its hexadecimal digits: the flag that it needs, nreg, how many values its fields xs, Rm (two digits),
-// imm4 (two) and the strided Zt have, esize/8 (two), msize/8 (two), scale. One number a class, since a constant table is put on the
-// stack each time that it is read.
-const LAYOUTS: [u64; 12] = [
-    0x0_1_2_01_01_1_08_08_3,
-    0x0_1_2_01_01_1_08_08_0,
-    0x0_1_1_01_01_1_08_08_3,
-    0x0_1_1_01_01_1_08_08_0,
-    0x0_1_2_01_01_1_08_01_0,
-    0x0_1_2_01_01_1_04_01_0,
-    0x0_1_1_01_01_1_08_01_0,
-    0x1_2_1_20_01_8_08_08_3,
-    0x1_4_1_20_01_4_08_08_3,
-    0x1_2_1_01_10_8_08_08_0,
-    0x1_4_1_01_10_4_08_08_0,
-    0x2_1_1_20_01_1_10_10_0,
-];
+// What code needs of the classes, each column as one number whose hexadecimal digit k, counted from the right, is class k + 1's: the
+// flag that it needs, nreg, how many bits its fields xs, Rm, imm4 and the strided Zt have, esize/8 and msize/8 as powers of 2, the
+// scale. Numbers, since a constant array is put on the stack each time that it is read.
+const FEATURE: u64 = 0x2_1111_0000000;
+
+const NREG: u64 = 0x1_4242_1111111;
+
+const XS: u64 = 0x0_0000_0110011;
+
+const RM: u64 = 0x5_0055_0000000;
+
+const IMM4: u64 = 0x0_4400_0000000;
+
+const ZT: u64 = 0x0_2323_0000000;
+
+const STEP: u64 = 0x4_3333_3233333;
+
+const SIZE: u64 = 0x4_3333_0003333;
+
+const SCALE: u64 = 0x0_0033_0000303;
 
 // The place in the table of the class that the word belongs to; CLASSES where it belongs to none.
 pub fn index_of(word: u32) -> usize
@@ -67,31 +70,38 @@ pub fn base_of(k: usize) -> u32
     row[1]
 }
 
+// Digit k of a column.
+fn digit(column: u64, k: usize) -> u32
+    requires { ⌜ k < 16 ⌝ }
+    ensures is { λ r. ⌜ r ≡ digitAt column k ⌝ }
+    ensures bounded { λ r. ⌜ r < 16 ⌝ }
+{
+    ((column >> (4 * k)) % 16) as u32
+}
+
+// 2 to the power of digit k of a column.
+fn power(column: u64, k: usize) -> u32
+    requires { ⌜ k < 16 ⌝ }
+    ensures { λ r. ⌜ r ≡ 2 ^ digitAt column k ⌝ }
+{
+    1 << digit(column, k)
+}
+
 pub fn layout_of(k: usize) -> Layout
     requires { ⌜ k < 12 ⌝ }
     ensures is { λ r. ⌜ r ≡ layoutOf (classAt k) ⌝ }
     ensures bounded { λ r. ⌜ Bounded r ⌝ }
 {
-    let row = LAYOUTS[k];
-    let feature = (row / 0x1_0000_0000_0000 % 16) as u32;
-    let nreg = (row / 0x1000_0000_0000 % 16) as u32;
-    let xs = (row / 0x100_0000_0000 % 16) as u32;
-    let rm = (row / 0x1_0000_0000 % 256) as u32;
-    let imm4 = (row / 0x100_0000 % 256) as u32;
-    let zt = (row / 0x10_0000 % 16) as u32;
-    let step = (row / 0x1000 % 256) as u32;
-    let size = (row / 16 % 256) as u32;
-    let scale = (row % 16) as u32;
     Layout {
-        feature,
-        nreg,
-        xs,
-        rm,
-        imm4,
-        zt,
-        step,
-        size,
-        scale,
+        feature: digit(FEATURE, k),
+        nreg: digit(NREG, k),
+        xs: power(XS, k),
+        rm: power(RM, k),
+        imm4: power(IMM4, k),
+        zt: power(ZT, k),
+        step: power(STEP, k),
+        size: power(SIZE, k),
+        scale: digit(SCALE, k),
     }
 }
 
