@@ -67,13 +67,6 @@ pub layout-bounded : (c : Class) (l : Layout) → l ≡ layoutOf c → Small c �
 layout-bounded c l e s =
     subst Bounded (sym e) (record { feature = s .feature; nreg = s .nreg; xs = s .xs; rm = s .rm; imm4 = s .imm4; zt = s .zt; step = s .step; size = s .size; scale = s .scale })
 
--- a class's flag, in its layout and out of it
-pub flag-of : (k : ℕ) (l : Layout) (x : ℕ) → l ≡ layoutOf (classAt k) → l .feature ≡ x → flag (classAt k .feature) ≡ x
-flag-of k l x e f = sym (ap (λ (y : Layout). y .feature) e) ∙ f
-
-pub of-flag : (k j : ℕ) (l : Layout) (x : ℕ) → j ≡ k → l ≡ layoutOf (classAt k) → flag (classAt j .feature) ≡ x → l .feature ≡ x
-of-flag k j l x q e f = ap (λ (y : Layout). y .feature) e ∙ ap (λ (i : ℕ). flag (classAt i .feature)) (sym q) ∙ f
-
 -- ---- stores
 
 module _ (k w : ℕ) (h : k < length classes) where
@@ -166,9 +159,9 @@ module _ (k w : ℕ) (h : k < length classes) where
 
 -- ---- decoding
 
--- a class's feature from its layout's
-pub featured : (k : ℕ) (l : Layout) (x : Feature) → l ≡ layoutOf (classAt k) → l .feature ≡ flag x → classAt k .feature ≡ x
-featured k l x e f = flag-inj (classAt k .feature) x (flag-of k l (flag x) e f)
+-- a class's feature by its flag
+pub featured : (k n : ℕ) (x : Feature) → n ≡ flag (classAt k .feature) → n ≡ flag x → classAt k .feature ≡ x
+featured k n x e f = flag-inj (classAt k .feature) x (sym e ∙ f)
 
 module _ (w k : ℕ) (e : k ≡ indexOf w) where
   pub undefined : length classes ≤ k → Undefined ≡ decodeOf w

@@ -1,7 +1,7 @@
 // The code's tables of the classes, and how a class is found in them.
 ghost use mathlib.Core.Path.{_≡_};
 ghost use Prim.Native.Nat.{_^_, _<_, _≤_};
-ghost use Rattle.encoding.specs.Classes.{classAt};
+ghost use Rattle.encoding.specs.Classes.{classAt, flag};
 ghost use Rattle.encoding.specs.Decoding.{indexOf};
 ghost use Rattle.encoding.specs.Encoding.{rowOf};
 ghost use Rattle.encoding.specs.Layouts.{layoutOf, digitAt, Bounded};
@@ -87,13 +87,22 @@ fn power(column: u64, k: usize) -> u32
     1 << digit(column, k)
 }
 
+// The number of the flag that class k + 1 needs.
+pub fn feature_at(k: usize) -> u32
+    requires { ⌜ k < 12 ⌝ }
+    ensures is { λ r. ⌜ r ≡ flag (classAt k .feature) ⌝ }
+    ensures bounded { λ r. ⌜ r < 3 ⌝ }
+{
+    digit(FEATURE, k)
+}
+
 pub fn layout_of(k: usize) -> Layout
     requires { ⌜ k < 12 ⌝ }
     ensures is { λ r. ⌜ r ≡ layoutOf (classAt k) ⌝ }
     ensures bounded { λ r. ⌜ Bounded r ⌝ }
 {
     Layout {
-        feature: digit(FEATURE, k),
+        feature: feature_at(k),
         nreg: digit(NREG, k),
         xs: power(XS, k),
         rm: power(RM, k),
@@ -116,10 +125,5 @@ pub fn row_of(class: u8, feature: u32) -> usize
     if CLASSES <= k {
         return CLASSES;
     }
-    let layout = layout_of(k);
-    if layout.feature == feature {
-        k
-    } else {
-        CLASSES
-    }
+    if feature_at(k) == feature { k } else { CLASSES }
 }

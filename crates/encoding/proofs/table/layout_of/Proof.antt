@@ -2,7 +2,7 @@
 use mathlib.Core.Path.{_≡_}
 use Prim.Native.Nat.{_/_, _^_, _<_}
 use lib.ListN.{length}
-use Rattle.encoding.specs.Classes.{Rm, imm4, xs, flag, classes, classAt, any, everyBelow, has, width}
+use Rattle.encoding.specs.Classes.{Rm, imm4, xs, classes, classAt, any, everyBelow, has, width}
 use Rattle.encoding.specs.Decoding.{ztOf}
 use Rattle.encoding.specs.Layouts.{layoutOf}
 use Rattle.encoding.specs.declared.Layout.{Layout}
@@ -12,11 +12,11 @@ use borrow.Author.Needs.{needs}
 use Rattle.encoding.proofs.table.layout_of.Statement.{statement}
 use Rattle.encoding.proofs.table.layout_of.Tie as tie
 
+feature-at-requires : tie.Need-feature-at-requires
+feature-at-requires c κs = search needs
+
 digit-requires : tie.Need-digit-requires
 digit-requires c κs = search needs
-
-digit-requires-2 : tie.Need-digit-requires-2
-digit-requires-2 c κs = search needs
 
 power-requires : tie.Need-power-requires
 power-requires c κs = search needs
@@ -36,8 +36,8 @@ power-requires-5 c κs = search needs
 power-requires-6 : tie.Need-power-requires-6
 power-requires-6 c κs = search needs
 
-digit-requires-3 : tie.Need-digit-requires-3
-digit-requires-3 c κs = search needs
+digit-requires-2 : tie.Need-digit-requires-2
+digit-requires-2 c κs = search needs
 
 returns : tie.Need-returns
 unfolding classes classAt any has everyBelow digitsAre
@@ -49,15 +49,15 @@ returns c =
     let e : _≡_ {A = Layout} _ (layoutOf (classAt k)) =
     λ i.
     record {
-      feature = one (λ c. flag (c .feature)) _ _ (c .before .before .before .before .before .before .before .before .digit .ensures .0) tt i;
-      nreg = one (λ c. c .nreg) _ _ (c .before .before .before .before .before .before .before .digit2 .ensures .0) tt i;
+      feature = c .before .before .before .before .before .before .before .before .feature-at .ensures .0 i;
+      nreg = one (λ c. c .nreg) _ _ (c .before .before .before .before .before .before .before .digit .ensures .0) tt i;
       xs = two (λ c. 2 ^ width c xs) _ _ (c .before .before .before .before .before .before .power .ensures) tt i;
       rm = two (λ c. 2 ^ width c Rm) _ _ (c .before .before .before .before .before .power2 .ensures) tt i;
       imm4 = two (λ c. 2 ^ width c imm4) _ _ (c .before .before .before .before .power3 .ensures) tt i;
       zt = two (λ c. 2 ^ width c (ztOf c)) _ _ (c .before .before .before .power4 .ensures) tt i;
       step = two (λ c. c .esize / 8) _ _ (c .before .before .power5 .ensures) tt i;
       size = two (λ c. c .msize / 8) _ _ (c .before .power6 .ensures) tt i;
-      scale = one (λ c. c .scale) _ _ (c .digit3 .ensures .0) tt i;
+      scale = one (λ c. c .scale) _ _ (c .digit2 .ensures .0) tt i;
     } in
     (e, layout-bounded (classAt k) _ e (small-at k h))
 
@@ -65,13 +65,13 @@ pub layout-of-spec : {M : Type 1} → statement M
 layout-of-spec =
     tie.close
     (tie.spec
+    feature-at-requires
     digit-requires
-    digit-requires-2
     power-requires
     power-requires-2
     power-requires-3
     power-requires-4
     power-requires-5
     power-requires-6
-    digit-requires-3
+    digit-requires-2
     returns)
