@@ -61,7 +61,7 @@ pub fn index_of(word: u32) -> usize
     CLASSES
 }
 
-pub fn base_of(k: usize) -> u32
+pub(crate) fn base_of(k: usize) -> u32
     requires { ⌜ k < 12 ⌝ }
     ensures is { λ r. ⌜ r ≡ classAt k .base ⌝ }
     ensures bounded { λ r. ⌜ r ≤ 0xF0000000 ⌝ }
@@ -96,7 +96,7 @@ pub fn feature_at(k: usize) -> u32
     digit(FEATURE, k)
 }
 
-pub fn layout_of(k: usize) -> Layout
+pub(crate) fn layout_of(k: usize) -> Layout
     requires { ⌜ k < 12 ⌝ }
     ensures is { λ r. ⌜ r ≡ layoutOf (classAt k) ⌝ }
     ensures bounded { λ r. ⌜ Bounded r ⌝ }
@@ -115,7 +115,7 @@ pub fn layout_of(k: usize) -> Layout
 }
 
 // The place of the class with this number, if it needs this feature; CLASSES where there is none.
-pub fn row_of(class: u8, feature: u32) -> usize
+pub(crate) fn row_of(class: u8, feature: u32) -> usize
     ensures { λ r. ⌜ r ≡ rowOf class feature ⌝ }
 {
     if class == 0 {
