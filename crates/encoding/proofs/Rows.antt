@@ -14,7 +14,7 @@ use Rattle.encoding.specs.Classes as C
 use Rattle.encoding.specs.Classes.{Field, Zm, Rm, imm4, xs, Pg, Pc, Rn, Zn, Zt, low, Feature, SVE, SME2, SVE2p1, flag, Class, class, noClass, classes, classAt, position, any, everyBelow, bit, inside, belongs, maskBelow, maskOf, has, width}
 use Rattle.encoding.specs.Decoding.{ztOf, indexOf}
 use Rattle.encoding.specs.Encoding.{featureNumbered, rowOf}
-use Rattle.encoding.specs.Layouts.{digitAt}
+use Rattle.encoding.specs.Layouts.{digitAt, packedOf}
 use Rattle.encoding.proofs.Tests.{every, every-at, below-at, below-all, holds}
 use Rattle.encoding.proofs.Search.{position-none, position-only, position-holds}
 use Rattle.encoding.proofs.Places.{Place, row-right, Row, row, mask-member, member-mask}
@@ -161,14 +161,26 @@ passes k w h e = masked k h w (subst (λ (r : List ℕ). bitAnd w (getD r 0 0) �
 pub member : (k w : ℕ) → k < length classes → w < 2 ^ 32 → T (belongs (classAt k) w) → Passes k w
 member k w h l t = subst (λ (r : List ℕ). bitAnd w (getD r 0 0) ≡ getD r 1 0) (sym (column-at row-of [] k h)) (unmasked k h w l t)
 
--- what a column's digits stand for is what the classes have
-unfoldable pub digitsAre : (ℕ → ℕ) → (Class → ℕ) → ℕ → Bool
-digitsAre g f x = everyBelow (length classes) (λ k. eqb (g (digitAt x k)) (f (classAt k)))
+-- the classes' flags are the digits of a number
+unfoldable pub flagsAre : ℕ → Bool
+flagsAre x = everyBelow (length classes) (λ k. eqb (digitAt x k) (flag (classAt k .feature)))
 
-pub digit-at : (k : ℕ) → k < length classes → (g : ℕ → ℕ) (f : Class → ℕ) (x r : ℕ) → r ≡ g (digitAt x k) → T (digitsAre g f x) → r ≡ f (classAt k)
-unfolding digitsAre
-digit-at k h g f x r e t =
-    e ∙ eqb→eq (g (digitAt x k)) (f (classAt k)) (below-at (length classes) (λ i. eqb (g (digitAt x i)) (f (classAt i))) t k h)
+pub flag-at : (k : ℕ) → k < length classes → (x r : ℕ) → r ≡ digitAt x k → T (flagsAre x) → r ≡ flag (classAt k .feature)
+unfolding flagsAre
+flag-at k h x r e t =
+    e ∙ eqb→eq (digitAt x k) (flag (classAt k .feature)) (below-at (length classes) (λ i. eqb (digitAt x i) (flag (classAt i .feature))) t k h)
+
+-- what a digit of the classes' numbers stands for
+unfoldable pub digitsAre : (ℕ → ℕ) → (Class → ℕ) → ℕ → Bool
+digitsAre g f j = every (λ c. eqb (g (digitAt (packedOf c) j)) (f c)) classes
+
+pub digit-at : (k : ℕ) → k < length classes → (n : ℕ) → n ≡ packedOf (classAt k) → (g : ℕ → ℕ) (f : Class → ℕ) (j r : ℕ) → r ≡ g (digitAt n j)
+    → T (digitsAre g f j) → r ≡ f (classAt k)
+unfolding digitsAre classAt
+digit-at k h n q g f j r e t =
+    e
+    ∙ ap (λ (x : ℕ). g (digitAt x j)) q
+    ∙ eqb→eq (g (digitAt (packedOf (classAt k)) j)) (f (classAt k)) (every-at (λ c. eqb (g (digitAt (packedOf c) j)) (f c)) classes noClass t k h)
 
 -- ---- how large a class's numbers are, and which fields all classes of a feature have
 

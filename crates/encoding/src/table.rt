@@ -4,7 +4,7 @@ ghost use Prim.Native.Nat.{_^_, _<_, _≤_};
 ghost use Rattle.encoding.specs.Classes.{classAt, flag};
 ghost use Rattle.encoding.specs.Decoding.{indexOf};
 ghost use Rattle.encoding.specs.Encoding.{rowOf};
-ghost use Rattle.encoding.specs.Layouts.{layoutOf, digitAt, Bounded};
+ghost use Rattle.encoding.specs.Layouts.{layoutOf, digitAt, packedOf, Bounded};
 use super::Layout;
 
 pub const CLASSES: usize = 12;
@@ -25,26 +25,8 @@ const ROWS: [[u32; 2]; 12] = [
     [0xFFE0E000, 0xE4202000],
 ];
 
-// What code needs of the classes, each column as one number whose hexadecimal digit k, counted from the right, is class k + 1's: the
-// flag that it needs, nreg, how many bits its fields xs, Rm, imm4 and the strided Zt have, esize/8 and msize/8 as powers of 2, the
-// scale. Numbers, since a constant array is put on the stack each time that it is read.
-const FEATURE: u64 = 0x2_1111_0000000;
-
-const NREG: u64 = 0x1_4242_1111111;
-
-const XS: u64 = 0x0_0000_0110011;
-
-const RM: u64 = 0x5_0055_0000000;
-
-const IMM4: u64 = 0x0_4400_0000000;
-
-const ZT: u64 = 0x0_2323_0000000;
-
-const STEP: u64 = 0x4_3333_3233333;
-
-const SIZE: u64 = 0x4_3333_0003333;
-
-const SCALE: u64 = 0x0_0033_0000303;
+// The number of the flag that class k + 1 needs, as hexadecimal digit k from the right.
+const FEATURES: u64 = 0x2_1111_0000000;
 
 // The place in the table of the class that the word belongs to; CLASSES where it belongs to none.
 pub fn index_of(word: u32) -> usize
@@ -70,21 +52,21 @@ pub(crate) fn base_of(k: usize) -> u32
     row[1]
 }
 
-// Digit k of a column.
-fn digit(column: u64, k: usize) -> u32
+// Hexadecimal digit k of a number.
+fn digit(n: u64, k: usize) -> u32
     requires { ⌜ k < 16 ⌝ }
-    ensures is { λ r. ⌜ r ≡ digitAt column k ⌝ }
+    ensures is { λ r. ⌜ r ≡ digitAt n k ⌝ }
     ensures bounded { λ r. ⌜ r < 16 ⌝ }
 {
-    ((column >> (4 * k)) % 16) as u32
+    ((n >> (4 * k)) % 16) as u32
 }
 
-// 2 to the power of digit k of a column.
-fn power(column: u64, k: usize) -> u32
+// 2 to the power of digit k.
+fn power(n: u64, k: usize) -> u32
     requires { ⌜ k < 16 ⌝ }
-    ensures { λ r. ⌜ r ≡ 2 ^ digitAt column k ⌝ }
+    ensures { λ r. ⌜ r ≡ 2 ^ digitAt n k ⌝ }
 {
-    1 << digit(column, k)
+    1 << digit(n, k)
 }
 
 // The number of the flag that class k + 1 needs.
@@ -93,7 +75,30 @@ pub fn feature_at(k: usize) -> u32
     ensures is { λ r. ⌜ r ≡ flag (classAt k .feature) ⌝ }
     ensures bounded { λ r. ⌜ r < 3 ⌝ }
 {
-    digit(FEATURE, k)
+    digit(FEATURES, k)
+}
+
+// What code needs of class k + 1 besides, by the hexadecimal digits of a number: nreg, how many bits its fields xs, Rm, imm4 and the
+// strided Zt have, esize/8 and msize/8 as powers of 2, the scale. A match, since a constant array is put on the stack each time that it
+// is read.
+fn packed(k: usize) -> u64
+    requires { ⌜ k < 12 ⌝ }
+    ensures { λ r. ⌜ r ≡ packedOf (classAt k) ⌝ }
+{
+    match k {
+        0 => 0x1_1_0_0_0_3_3_3,
+        1 => 0x1_1_0_0_0_3_3_0,
+        2 => 0x1_0_0_0_0_3_3_3,
+        3 => 0x1_0_0_0_0_3_3_0,
+        4 => 0x1_1_0_0_0_3_0_0,
+        5 => 0x1_1_0_0_0_2_0_0,
+        6 => 0x1_0_0_0_0_3_0_0,
+        7 => 0x2_0_5_0_3_3_3_3,
+        8 => 0x4_0_5_0_2_3_3_3,
+        9 => 0x2_0_0_4_3_3_3_0,
+        10 => 0x4_0_0_4_2_3_3_0,
+        _ => 0x1_0_5_0_0_4_4_0,
+    }
 }
 
 pub(crate) fn layout_of(k: usize) -> Layout
@@ -101,16 +106,17 @@ pub(crate) fn layout_of(k: usize) -> Layout
     ensures is { λ r. ⌜ r ≡ layoutOf (classAt k) ⌝ }
     ensures bounded { λ r. ⌜ Bounded r ⌝ }
 {
+    let n = packed(k);
     Layout {
         feature: feature_at(k),
-        nreg: digit(NREG, k),
-        xs: power(XS, k),
-        rm: power(RM, k),
-        imm4: power(IMM4, k),
-        zt: power(ZT, k),
-        step: power(STEP, k),
-        size: power(SIZE, k),
-        scale: digit(SCALE, k),
+        nreg: digit(n, 7),
+        xs: power(n, 6),
+        rm: power(n, 5),
+        imm4: power(n, 4),
+        zt: power(n, 3),
+        step: power(n, 2),
+        size: power(n, 1),
+        scale: digit(n, 0),
     }
 }
 

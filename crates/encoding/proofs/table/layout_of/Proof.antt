@@ -1,16 +1,21 @@
--- A class's numbers are its digits of the columns. Assumes nothing.
+-- A class's numbers are the digits of its own. Assumes nothing.
 use mathlib.Core.Path.{_≡_}
 use Prim.Native.Nat.{_/_, _^_, _<_}
 use lib.ListN.{length}
-use Rattle.encoding.specs.Classes.{Rm, imm4, xs, classes, classAt, any, everyBelow, has, width}
+use Rattle.encoding.specs.Classes.{Rm, imm4, xs, classes, classAt, any, has, width}
 use Rattle.encoding.specs.Decoding.{ztOf}
-use Rattle.encoding.specs.Layouts.{layoutOf}
+use Rattle.encoding.specs.Encoding.{lowest}
+use Rattle.encoding.specs.Layouts.{layoutOf, packedOf}
 use Rattle.encoding.specs.declared.Layout.{Layout}
+use Rattle.encoding.proofs.Tests.{every}
 use Rattle.encoding.proofs.Rows.{digitsAre, digit-at, small-at}
 use Rattle.encoding.proofs.Reading.{layout-bounded}
 use borrow.Author.Needs.{needs}
 use Rattle.encoding.proofs.table.layout_of.Statement.{statement}
 use Rattle.encoding.proofs.table.layout_of.Tie as tie
+
+packed-requires : tie.Need-packed-requires
+packed-requires c κs = search needs
 
 feature-at-requires : tie.Need-feature-at-requires
 feature-at-requires c κs = search needs
@@ -40,24 +45,25 @@ digit-requires-2 : tie.Need-digit-requires-2
 digit-requires-2 c κs = search needs
 
 returns : tie.Need-returns
-unfolding classes classAt any has everyBelow digitsAre
+unfolding classes any has every lowest packedOf digitsAre
 returns c =
-    let k = c .before .before .before .before .before .before .before .before .before .args .k in
+    let k = c .before .before .before .before .before .before .before .before .before .before .args .k in
     let h : k < length classes = search needs in
-    let one = digit-at k h (λ n. n) in
-    let two = digit-at k h (λ n. 2 ^ n) in
+    let n = c .before .before .before .before .before .before .before .before .before .packed in
+    let one = digit-at k h (n .result) (n .ensures) (λ n. n) in
+    let two = digit-at k h (n .result) (n .ensures) (λ n. 2 ^ n) in
     let e : _≡_ {A = Layout} _ (layoutOf (classAt k)) =
     λ i.
     record {
       feature = c .before .before .before .before .before .before .before .before .feature-at .ensures .0 i;
-      nreg = one (λ c. c .nreg) _ _ (c .before .before .before .before .before .before .before .digit .ensures .0) tt i;
-      xs = two (λ c. 2 ^ width c xs) _ _ (c .before .before .before .before .before .before .power .ensures) tt i;
-      rm = two (λ c. 2 ^ width c Rm) _ _ (c .before .before .before .before .before .power2 .ensures) tt i;
-      imm4 = two (λ c. 2 ^ width c imm4) _ _ (c .before .before .before .before .power3 .ensures) tt i;
-      zt = two (λ c. 2 ^ width c (ztOf c)) _ _ (c .before .before .before .power4 .ensures) tt i;
-      step = two (λ c. c .esize / 8) _ _ (c .before .before .power5 .ensures) tt i;
-      size = two (λ c. c .msize / 8) _ _ (c .before .power6 .ensures) tt i;
-      scale = one (λ c. c .scale) _ _ (c .digit2 .ensures .0) tt i;
+      nreg = one (λ c. c .nreg) 7 _ (c .before .before .before .before .before .before .before .digit .ensures .0) tt i;
+      xs = two (λ c. 2 ^ width c xs) 6 _ (c .before .before .before .before .before .before .power .ensures) tt i;
+      rm = two (λ c. 2 ^ width c Rm) 5 _ (c .before .before .before .before .before .power2 .ensures) tt i;
+      imm4 = two (λ c. 2 ^ width c imm4) 4 _ (c .before .before .before .before .power3 .ensures) tt i;
+      zt = two (λ c. 2 ^ width c (ztOf c)) 3 _ (c .before .before .before .power4 .ensures) tt i;
+      step = two (λ c. c .esize / 8) 2 _ (c .before .before .power5 .ensures) tt i;
+      size = two (λ c. c .msize / 8) 1 _ (c .before .power6 .ensures) tt i;
+      scale = one (λ c. c .scale) 0 _ (c .digit2 .ensures .0) tt i;
     } in
     (e, layout-bounded (classAt k) _ e (small-at k h))
 
@@ -65,6 +71,7 @@ pub layout-of-spec : {M : Type 1} → statement M
 layout-of-spec =
     tie.close
     (tie.spec
+    packed-requires
     feature-at-requires
     digit-requires
     power-requires
