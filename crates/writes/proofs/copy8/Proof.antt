@@ -1,7 +1,7 @@
 -- Eight stores of bytes loaded before. Assumes nothing.
 use native.Mathlib.Omega.{arith}
 use lib.ListN.{length-set}
-use Rattle.writes.proofs.Copying.{eight-more}
+use Rattle.writes.proofs.Copying.{all-more}
 use Rattle.writes.proofs.copy8.Statement.{statement}
 use Rattle.writes.proofs.copy8.Tie as tie
 
@@ -101,7 +101,7 @@ same-length c = simp length-set
 returns : tie.Need-returns
 returns c =
     let x = c .before .before .before .before .before .before .before .before .args in
-    eight-more (x .dst .now) (x .src .now) (x .i) (omega arith) (omega arith)
+    all-more (x .dst .now) (x .src .now) (x .i) 7 (omega arith) (omega arith)
 
 pub copy8-spec : {M : Type 1} → statement M
 copy8-spec =

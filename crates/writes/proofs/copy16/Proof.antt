@@ -1,0 +1,269 @@
+-- Sixteen stores of bytes loaded before. Assumes nothing.
+use native.Mathlib.Omega.{arith}
+use lib.ListN.{length-set}
+use Rattle.writes.proofs.Copying.{all-more}
+use Rattle.writes.proofs.copy16.Statement.{statement}
+use Rattle.writes.proofs.copy16.Tie as tie
+
+shared-slice-read-b0 : tie.Need-shared-slice-read-b0
+shared-slice-read-b0 c = omega arith
+
+add-b1 : tie.Need-add-b1
+add-b1 c = omega arith
+
+shared-slice-read-b1 : tie.Need-shared-slice-read-b1
+shared-slice-read-b1 c = omega arith
+
+add-b2 : tie.Need-add-b2
+add-b2 c = omega arith
+
+shared-slice-read-b2 : tie.Need-shared-slice-read-b2
+shared-slice-read-b2 c = omega arith
+
+add-b3 : tie.Need-add-b3
+add-b3 c = omega arith
+
+shared-slice-read-b3 : tie.Need-shared-slice-read-b3
+shared-slice-read-b3 c = omega arith
+
+add-b4 : tie.Need-add-b4
+add-b4 c = omega arith
+
+shared-slice-read-b4 : tie.Need-shared-slice-read-b4
+shared-slice-read-b4 c = omega arith
+
+add-b5 : tie.Need-add-b5
+add-b5 c = omega arith
+
+shared-slice-read-b5 : tie.Need-shared-slice-read-b5
+shared-slice-read-b5 c = omega arith
+
+add-b6 : tie.Need-add-b6
+add-b6 c = omega arith
+
+shared-slice-read-b6 : tie.Need-shared-slice-read-b6
+shared-slice-read-b6 c = omega arith
+
+add-b7 : tie.Need-add-b7
+add-b7 c = omega arith
+
+shared-slice-read-b7 : tie.Need-shared-slice-read-b7
+shared-slice-read-b7 c = omega arith
+
+add-b8 : tie.Need-add-b8
+add-b8 c = omega arith
+
+shared-slice-read-b8 : tie.Need-shared-slice-read-b8
+shared-slice-read-b8 c = omega arith
+
+add-b9 : tie.Need-add-b9
+add-b9 c = omega arith
+
+shared-slice-read-b9 : tie.Need-shared-slice-read-b9
+shared-slice-read-b9 c = omega arith
+
+add-b10 : tie.Need-add-b10
+add-b10 c = omega arith
+
+shared-slice-read-b10 : tie.Need-shared-slice-read-b10
+shared-slice-read-b10 c = omega arith
+
+add-b11 : tie.Need-add-b11
+add-b11 c = omega arith
+
+shared-slice-read-b11 : tie.Need-shared-slice-read-b11
+shared-slice-read-b11 c = omega arith
+
+add-b12 : tie.Need-add-b12
+add-b12 c = omega arith
+
+shared-slice-read-b12 : tie.Need-shared-slice-read-b12
+shared-slice-read-b12 c = omega arith
+
+add-b13 : tie.Need-add-b13
+add-b13 c = omega arith
+
+shared-slice-read-b13 : tie.Need-shared-slice-read-b13
+shared-slice-read-b13 c = omega arith
+
+add-b14 : tie.Need-add-b14
+add-b14 c = omega arith
+
+shared-slice-read-b14 : tie.Need-shared-slice-read-b14
+shared-slice-read-b14 c = omega arith
+
+add-b15 : tie.Need-add-b15
+add-b15 c = omega arith
+
+shared-slice-read-b15 : tie.Need-shared-slice-read-b15
+shared-slice-read-b15 c = omega arith
+
+slice-write-dst : tie.Need-slice-write-dst
+slice-write-dst c = omega arith
+
+add-dst : tie.Need-add-dst
+add-dst c = omega arith
+
+slice-write-dst-2 : tie.Need-slice-write-dst-2
+slice-write-dst-2 c = simp length-set (omega arith)
+
+add-dst-2 : tie.Need-add-dst-2
+add-dst-2 c = omega arith
+
+slice-write-dst-3 : tie.Need-slice-write-dst-3
+slice-write-dst-3 c = simp length-set (omega arith)
+
+add-dst-3 : tie.Need-add-dst-3
+add-dst-3 c = omega arith
+
+slice-write-dst-4 : tie.Need-slice-write-dst-4
+slice-write-dst-4 c = simp length-set (omega arith)
+
+add-dst-4 : tie.Need-add-dst-4
+add-dst-4 c = omega arith
+
+slice-write-dst-5 : tie.Need-slice-write-dst-5
+slice-write-dst-5 c = simp length-set (omega arith)
+
+add-dst-5 : tie.Need-add-dst-5
+add-dst-5 c = omega arith
+
+slice-write-dst-6 : tie.Need-slice-write-dst-6
+slice-write-dst-6 c = simp length-set (omega arith)
+
+add-dst-6 : tie.Need-add-dst-6
+add-dst-6 c = omega arith
+
+slice-write-dst-7 : tie.Need-slice-write-dst-7
+slice-write-dst-7 c = simp length-set (omega arith)
+
+add-dst-7 : tie.Need-add-dst-7
+add-dst-7 c = omega arith
+
+slice-write-dst-8 : tie.Need-slice-write-dst-8
+slice-write-dst-8 c = simp length-set (omega arith)
+
+add-dst-8 : tie.Need-add-dst-8
+add-dst-8 c = omega arith
+
+slice-write-dst-9 : tie.Need-slice-write-dst-9
+slice-write-dst-9 c = simp length-set (omega arith)
+
+add-dst-9 : tie.Need-add-dst-9
+add-dst-9 c = omega arith
+
+slice-write-dst-10 : tie.Need-slice-write-dst-10
+slice-write-dst-10 c = simp length-set (omega arith)
+
+add-dst-10 : tie.Need-add-dst-10
+add-dst-10 c = omega arith
+
+slice-write-dst-11 : tie.Need-slice-write-dst-11
+slice-write-dst-11 c = simp length-set (omega arith)
+
+add-dst-11 : tie.Need-add-dst-11
+add-dst-11 c = omega arith
+
+slice-write-dst-12 : tie.Need-slice-write-dst-12
+slice-write-dst-12 c = simp length-set (omega arith)
+
+add-dst-12 : tie.Need-add-dst-12
+add-dst-12 c = omega arith
+
+slice-write-dst-13 : tie.Need-slice-write-dst-13
+slice-write-dst-13 c = simp length-set (omega arith)
+
+add-dst-13 : tie.Need-add-dst-13
+add-dst-13 c = omega arith
+
+slice-write-dst-14 : tie.Need-slice-write-dst-14
+slice-write-dst-14 c = simp length-set (omega arith)
+
+add-dst-14 : tie.Need-add-dst-14
+add-dst-14 c = omega arith
+
+slice-write-dst-15 : tie.Need-slice-write-dst-15
+slice-write-dst-15 c = simp length-set (omega arith)
+
+add-dst-15 : tie.Need-add-dst-15
+add-dst-15 c = omega arith
+
+slice-write-dst-16 : tie.Need-slice-write-dst-16
+slice-write-dst-16 c = simp length-set (omega arith)
+
+same-length : tie.Need-same-length
+same-length c = simp length-set
+
+returns : tie.Need-returns
+returns c =
+    let x = c .before .before .before .before .before .before .before .before .before .before .before .before .before .before .before .before .args in
+    all-more (x .dst .now) (x .src .now) (x .i) 15 (omega arith) (omega arith)
+
+pub copy16-spec : {M : Type 1} → statement M
+copy16-spec =
+    tie.close
+    (tie.spec
+    shared-slice-read-b0
+    add-b1
+    shared-slice-read-b1
+    add-b2
+    shared-slice-read-b2
+    add-b3
+    shared-slice-read-b3
+    add-b4
+    shared-slice-read-b4
+    add-b5
+    shared-slice-read-b5
+    add-b6
+    shared-slice-read-b6
+    add-b7
+    shared-slice-read-b7
+    add-b8
+    shared-slice-read-b8
+    add-b9
+    shared-slice-read-b9
+    add-b10
+    shared-slice-read-b10
+    add-b11
+    shared-slice-read-b11
+    add-b12
+    shared-slice-read-b12
+    add-b13
+    shared-slice-read-b13
+    add-b14
+    shared-slice-read-b14
+    add-b15
+    shared-slice-read-b15
+    slice-write-dst
+    add-dst
+    slice-write-dst-2
+    add-dst-2
+    slice-write-dst-3
+    add-dst-3
+    slice-write-dst-4
+    add-dst-4
+    slice-write-dst-5
+    add-dst-5
+    slice-write-dst-6
+    add-dst-6
+    slice-write-dst-7
+    add-dst-7
+    slice-write-dst-8
+    add-dst-8
+    slice-write-dst-9
+    add-dst-9
+    slice-write-dst-10
+    add-dst-10
+    slice-write-dst-11
+    add-dst-11
+    slice-write-dst-12
+    add-dst-12
+    slice-write-dst-13
+    add-dst-13
+    slice-write-dst-14
+    add-dst-14
+    slice-write-dst-15
+    add-dst-15
+    slice-write-dst-16
+    same-length
+    returns)
