@@ -80,7 +80,7 @@ returns-2 c =
     let g = c .before .before .before .s2 .given in
     c .inspect-strided .ensures
     ∙ ap (λ (v : StridedPlan). stridedInspected v (a .args .vb) (a .args .e)) (c .before .strided-plan .ensures)
-    ∙ strided-inspected (m a) (a .args .e) (g .0 .0)
+    ∙ strided-inspected (m a) (a .args .e) (g .0 .0) (strided-in (g .0 .0) (ap refused (sym (g .1)) ∙ a .pre .0))
     ∙ ap (λ (s : Store). inspectedAt (m a) s (a .args .e)) (sym (g .1))
 
 returns-3 : tie.Need-returns-3
