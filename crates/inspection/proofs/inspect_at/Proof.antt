@@ -75,7 +75,7 @@ returns-2 c =
     let f = c .before .before .strided in
     c .inspect-strided .ensures
     ∙ ap (λ (v : StridedPlan). stridedInspected v (a .args .vb) (a .args .e)) (c .before .strided-plan .ensures)
-    ∙ strided-inspected (m a) (a .args .e) (f .result)
+    ∙ strided-inspected (m a) (a .args .e) (f .result) (strided-in (f .result) (ap refused (f .ensures) ∙ a .pre .0 .1))
     ∙ ap (λ (s : Store). inspectedAt (m a) s (a .args .e)) (f .ensures)
 
 quadword-requires : tie.Need-quadword-requires

@@ -77,7 +77,7 @@ returns-3 c =
     (c .before .before .strided-plan .ensures)
     ∙ ap (λ (l : List Element). checkedBy (settled (g .flags) (g .sp) (eqb (g .f .rn) 31) (g .base) (g .room) (sizeOf n) l)
     (planOf (m a) (S.Strided (g .f))))
-    (sym (strided-elements (m a) (g .f)))
+    (sym (strided-elements (m a) (g .f) (strided-in (g .f) (a .pre .0))))
     ∙ answered a _ _
     (for-settled (g .flags) (m a) (g .base) (g .room) (S.Strided (g .f)) (o .result) (o .ensures SME2 refl)
     (c .before .before .before .before .before .if1 .left) (i .result) (i .ensures SME2 refl) (c .before .before .before .if2 .left))

@@ -29,9 +29,7 @@ loop-holds c =
     (omega arith, λ z q. passed-first (stridedActive (a .s)) (stridedElement (a .s) (a .vb) z) (a .s .nreg * a .s .per) (scanOf (a .base) (a .room)))
 
 strided-active-requires : tie.Need-strided-active-requires Inv-loop μ-loop
-strided-active-requires c κs =
-    let a = c .before .before .before in
-    ((a .pre .shift, a .pre .counted), (strided-below (a .args .s) (a .args .vb) (a .pre) (c .before .loop .e) (c .loop-test .taken), a .pre .four))
+strided-active-requires c κs = search needs
 
 add-e : tie.Need-add-e Inv-loop μ-loop
 add-e c = omega (arith, strided-few (c .before .before .before .before .before .args .s) (c .before .before .before .before .before .args .vb) (c .before .before .before .before .before .pre))
