@@ -2,4 +2,5 @@ pub mod Walking
 pub mod Spans
 pub mod Concluding
 pub mod Order
+pub mod Planned
 pub mod Clearing
