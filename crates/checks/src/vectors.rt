@@ -85,19 +85,46 @@ pub fn scan_vector(
             if step == 8 {
                 return scan(v, Extension::None, 8, vb, offsets, governing, base, limit);
             }
-            scan(v, Extension::None, step, vb, offsets, governing, base, limit)
+            scan(
+                v,
+                Extension::None,
+                step,
+                vb,
+                offsets,
+                governing,
+                base,
+                limit,
+            )
         }
         Extension::Uxtw => {
             if step == 8 {
                 return scan(v, Extension::Uxtw, 8, vb, offsets, governing, base, limit);
             }
-            scan(v, Extension::Uxtw, step, vb, offsets, governing, base, limit)
+            scan(
+                v,
+                Extension::Uxtw,
+                step,
+                vb,
+                offsets,
+                governing,
+                base,
+                limit,
+            )
         }
         Extension::Sxtw => {
             if step == 8 {
                 return scan(v, Extension::Sxtw, 8, vb, offsets, governing, base, limit);
             }
-            scan(v, Extension::Sxtw, step, vb, offsets, governing, base, limit)
+            scan(
+                v,
+                Extension::Sxtw,
+                step,
+                vb,
+                offsets,
+                governing,
+                base,
+                limit,
+            )
         }
     }
 }

@@ -125,13 +125,7 @@ fn offset(extension: Extension, reg: &[u8], at: usize) -> u64
 }
 
 // The address of the element whose offset starts at byte `at` of its register.
-pub fn address_from(
-    base: u64,
-    extension: Extension,
-    scale: u32,
-    offsets: &[u8],
-    at: usize,
-) -> u64
+pub fn address_from(base: u64, extension: Extension, scale: u32, offsets: &[u8], at: usize) -> u64
     requires { ⌜ at + offsetBytes extension ≤ length (now offsets) ⌝ }
     requires { ⌜ scale < 64 ⌝ }
     ensures { λ r. ⌜ r ≡ addressFrom base extension scale (now (offsets .entry)) at ⌝ }
