@@ -1,4 +1,5 @@
 pub mod Walking
+pub mod Ranging
 pub mod Spans
 pub mod Concluding
 pub mod Order
