@@ -9,12 +9,12 @@ use lib.ListN.{length}
 use lib.Dec.{ltb}
 use borrow.Author.Tests.{lt-ltb, le-ltb}
 use Rattle.writes.specs.Sets.{ByteWrite, lookup, writesAt}
-use Rattle.writes.specs.Elements.{Element, splice, spliceAll}
+use Rattle.writes.specs.Elements.{Element, splice, spliceAll, netEffect}
 use Rattle.writes.proofs.Order.{two}
 use Rattle.writes.proofs.Lookup.{lookup-writesAt-below, lookup-writesAt-past, lookup-writesAt-at}
 use Rattle.writes.proofs.Net.{lookup-splice}
-use Rattle.intervals.specs.Intervals.{Interval, interval, insert, inserts, Fits}
-use Rattle.intervals.proofs.Inserting.{insert-past, insert-before, insert-meet}
+use Rattle.intervals.specs.Intervals.{Interval, interval, insert, inserts, Separate, AllHeld, Fits}
+use Rattle.intervals.proofs.Inserting.{insert-past, insert-before, insert-meet, separate-inserts, inserts-hold}
 
 -- x is one of the n addresses from s on
 unfoldable pub among : ℕ → ℕ → ℕ → Bool
@@ -41,18 +41,18 @@ among-high : (s n x : ℕ) → s + n ≤ x → among s n x ≡ false
 unfolding among
 among-high s n x h = simp (le-ltb x s (omega arith), le-ltb x (s + n) h)
 
-or-swap : (a b t : Bool) → or a (or b t) ≡ or b (or a t)
+pub or-swap : (a b t : Bool) → or a (or b t) ≡ or b (or a t)
 or-swap true true t = refl
 or-swap true false t = refl
 or-swap false true t = refl
 or-swap false false t = refl
 
-or-assoc : (a b t : Bool) → or (or a b) t ≡ or a (or b t)
+pub or-assoc : (a b t : Bool) → or (or a b) t ≡ or a (or b t)
 or-assoc true b t = refl
 or-assoc false b t = refl
 
 -- two that meet or touch together are one
-hull : (W x s e a n : ℕ) → s < e → s ≤ a + n → a ≤ e
+pub hull : (W x s e a n : ℕ) → s < e → s ≤ a + n → a ≤ e
     → among (W + (s - (s - a))) (e + (a + n - e) - (s - (s - a))) x ≡ or (among (W + s) (e - s) x) (among (W + a) n x)
 hull W x s e a n h k m =
     let t : ℕ = s - (s - a) in
@@ -131,3 +131,18 @@ covered-inserts W L x I S (e ∷ es) h c =
     ∙ ap₂ (λ (y n : ℕ). or (among y n x) (covered W x I)) w v
     ∙ ap₂ or (sym (some-writesAt x s p)) c
     ∙ sym (ap isSome (lookup-splice x s p S) ∙ some-or (lookup x (writesAt s p)) (lookup x S)))
+
+-- separate intervals that hold every element, and cover no other address
+pub record Covers (W L : ℕ) (es : List Element) (I : List Interval) : Type 0 where
+  pub separate : Separate L 0 I
+  pub all : AllHeld W I es
+  pub same : (x : ℕ) → covered W x I ≡ isSome (lookup x (netEffect es))
+
+pub covers-inserts : (W L : ℕ) (es : List Element) → Fits W L es → Covers W L es (inserts W [] es)
+unfolding covered lookup
+covers-inserts W L es h =
+    record {
+      separate = separate-inserts W L [] es h tt;
+      all = inserts-hold W [] es;
+      same = λ x. covered-inserts W L x [] [] es h refl;
+    }

@@ -37,7 +37,7 @@ total-split A N n i h =
     ∙ ap (λ (z : ℕ). total (intervalsAt A N 0 i) + total (intervalsAt A N z (n - i))) v
 
 -- a head's twelve bytes and n others are at most seven times n and a gap
-separate-total : (L f : ℕ) (I : List Interval) → f ≤ L + 1 → Separate L f I → total I + 7 * f ≤ 7 * (L + 1)
+pub separate-total : (L f : ℕ) (I : List Interval) → f ≤ L + 1 → Separate L f I → total I + 7 * f ≤ 7 * (L + 1)
 unfolding total
 separate-total L f [] h g = omega arith
 separate-total L f (interval s n ∷ I) h g =

@@ -45,7 +45,7 @@ fn put_mark(out: &mut [u8], at: usize, second: u8)
     out[at + 1] = second;
 }
 
-fn put_trailer(out: &mut [u8], at: usize, runs: usize)
+pub fn put_trailer(out: &mut [u8], at: usize, runs: usize)
     requires { ⌜ at + 4 ≤ length (now out) ⌝ }
     ensures { λ _. ⌜ now (out .exit) ≡ over (now (out .entry)) at (trailer runs) ⌝ }
 {
@@ -53,7 +53,7 @@ fn put_trailer(out: &mut [u8], at: usize, runs: usize)
     put16(out, at + 2, runs as u64);
 }
 
-fn put_head(out: &mut [u8], at: usize, start: u64, len: u64)
+pub fn put_head(out: &mut [u8], at: usize, start: u64, len: u64)
     requires { ⌜ at + 12 ≤ length (now out) ⌝ }
     ensures { λ _. ⌜ now (out .exit) ≡ over (now (out .entry)) at (headBytes start len) ⌝ }
 {
