@@ -4,3 +4,6 @@ pub mod Gathering
 pub mod Laying
 pub mod Plans
 pub mod Outcomes
+pub mod Keying
+pub mod Collecting
+pub mod Spotting

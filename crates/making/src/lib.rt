@@ -53,24 +53,16 @@ fn make_vector(
 {
     let offsets = elements::register_of(z, vb, v.offsets);
     let governing = elements::register_of(p, vb / 8, v.governing);
-    let mut starts = [0u64; 64];
-    let mut lens = [0u64; 64];
-    let n = gather_vector(
-        v,
-        vb,
-        offsets,
-        governing,
-        base,
-        room,
-        &mut starts,
-        &mut lens,
-    );
-    let mut places = [0u64; 64];
-    let length = composing::size_up(&starts, &lens, n, room, &mut places);
+    let mut keys = [0u32; 64];
+    let n = gather_vector(v, vb, offsets, governing, base, room, &mut keys);
+    ordering::order(&mut keys, n);
+    let size = v.size as u64;
+    let mut spots = [0u32; 64];
+    let length = keyed::measure(&keys, n, size, room, &mut spots);
     if patch.len() < length {
         return Making::NoRoom;
     }
-    composing::put_heads(base, &starts, &lens, n, room, patch);
+    keyed::put_heads(base, &keys, n, size, room, patch);
     let stored = elements::register_of(z, vb, v.stored);
     let counts = lay_vector(
         v,
@@ -79,11 +71,9 @@ fn make_vector(
         governing,
         stored,
         base,
-        room,
-        &starts,
-        &lens,
-        &places,
+        &keys,
         n,
+        &spots,
         patch,
     );
     Making::Done {
