@@ -2,6 +2,7 @@
 use mathlib.Core.Path.{_≡_, refl, sym, ap, ap₂, _∙_, subst}
 use Prim.Native.Nat.{ℕ, zero, suc, _+_, _-_, _*_, _/_, _%_, _≤_, _<_}
 use mathlib.Core.List.{List, [], _∷_}
+use native.Mathlib.Nat.{suc-mul}
 use native.Mathlib.Omega.{arith}
 use native.Mathlib.Numerals.{add-one}
 use lib.ListN.{length, getD, set, length-set}
@@ -65,6 +66,40 @@ total-open L size a b p (k ∷ K) c r =
     (λ w. omega (arith, ap total (runs-apart size a b k K w)))
     (λ w. omega (arith, ap total (runs-join size a b k K w), total-open L size a (q + size) q K (omega arith) (r .2)))
 
+-- at most a head and `size` bytes for each key
+total-most : (L size a b : ℕ) (K : List ℕ) → a ≤ b → Rising L size a K → total (runsFrom size a b K) ≤ 12 + (b - a) + length K * (12 + size)
+unfolding runsFrom total
+total-most L size a b [] h r = omega arith
+total-most L size a b (k ∷ K) h r =
+    let q : ℕ = placeOf k in
+    let r0 : a ≤ q = r .0 in
+    let m : suc (length K) * (12 + size) ≡ length K * (12 + size) + (12 + size) = suc-mul (length K) (12 + size) in
+    two b q
+    (λ w. omega (arith, ap total (runs-apart size a b k K w), total-most L size q (q + size) K (omega arith) (r .2)))
+    (λ w.
+    omega (
+      arith,
+      ap total (runs-join size a b k K w),
+      total-most L size a (q + size) K (omega arith) (rising-more L size q a K r0 (r .2)),
+    ))
+
+runs-most : (L size : ℕ) (K : List ℕ) → Rising L size 0 K → total (runsOf size K) ≤ length K * (12 + size)
+unfolding total
+runs-most L size [] r = omega arith
+runs-most L size (k ∷ K) r =
+    let q : ℕ = placeOf k in
+    let m : suc (length K) * (12 + size) ≡ length K * (12 + size) + (12 + size) = suc-mul (length K) (12 + size) in
+    omega (arith, ap total (runs-join size q q k K (omega arith)), total-most L size q (q + size) K (omega arith) (r .2))
+
+pub ordered-most : (A : List ℕ) (m size L : ℕ) → Ordered A m size L → total (runsOf size (entries A 0 m)) ≤ m * (12 + size)
+ordered-most A m size L o =
+    subst (λ (z : ℕ). total (runsOf size (entries A 0 m)) ≤ z * (12 + size)) (length-entries A 0 m)
+    (runs-most L size (entries A 0 m) (o .rising))
+
+pub sized-none : (A : List ℕ) (m size : ℕ) → m ≡ 0 → 4 ≡ total (runsOf size (entries A 0 m)) + 4
+unfolding entries total
+sized-none A m size e = ap (λ (z : ℕ). total (runsOf size (entries A 0 z)) + 4) (sym e)
+
 -- ---- keys below the t-th are passed: the last interval lies from a up to b, what stands before it takes `at` bytes
 
 pub record Tracing (A : List ℕ) (m size L at a b t : ℕ) : Type 0 where
@@ -107,6 +142,12 @@ module _ (A : List ℕ) (m size L : ℕ) (o : Ordered A m size L) where
           rest = subst (λ (z : ℕ). Rising L size z (entries A 0 (m - 0))) w (subst (Rising L size p) (sym (entries-all A m ∙ first)) q);
           sum = omega (arith, ap total runs-are);
         }
+
+  pub size-small : 0 < m → size ≤ 65536
+  size-small h = omega (arith, tracing-first h .fits, o .small)
+
+  pub tracing-begun : 0 < m → (s : ℕ) → s ≡ placeOf (getD A 0 0) → Tracing A m size L 0 s s 0
+  tracing-begun h s e = subst (λ (z : ℕ). Tracing A m size L 0 z z 0) (sym e) (tracing-first h)
 
   module _ (at a b t : ℕ) (k : Tracing A m size L at a b t) where
     -- head and bytes of the last interval so far are within the whole
@@ -168,6 +209,14 @@ module _ (A : List ℕ) (m size L : ℕ) (o : Ordered A m size L) where
 
     pub tracing-step : t < m → (s : ℕ) → s ≡ placeOf (getD A t 0) → (a ≤ s) × (b ≤ s + size) × (s + size ≤ 65536)
     tracing-step h s e = let p = tracing-place h in (omega (arith, p .0), omega (arith, p .1), omega (arith, p .2, o .small))
+
+    -- s: the key's place, as the code has it
+    pub tracing-new : t < m → (s : ℕ) → s ≡ placeOf (getD A t 0) → b < s → Tracing A m size L (at + 12 + (b - a)) s (s + size) (t + 1)
+    tracing-new h s e g =
+        subst (λ (z : ℕ). Tracing A m size L (at + 12 + (b - a)) z (z + size) (t + 1)) (sym e) (tracing-apart h (omega arith))
+
+    pub tracing-grown : t < m → (s : ℕ) → s ≡ placeOf (getD A t 0) → s ≤ b → Tracing A m size L at a (s + size) (t + 1)
+    tracing-grown h s e g = subst (λ (z : ℕ). Tracing A m size L at a (z + size) (t + 1)) (sym e) (tracing-join h (omega arith))
 
     pub tracing-done : m ≤ t → at + 12 + (b - a) ≡ total (runsOf size (entries A 0 m))
     unfolding total runsFrom

@@ -78,26 +78,27 @@ module _ (W L : ℕ) (es : List Element) (top : W + L ≤ 2 ^ 64) (fits : Fits W
 
 -- ---- from keys
 
-module _ (W L size : ℕ) (es : List Element) (top : W + L ≤ 2 ^ 64) (fits : Fits W L es) (o : 1 ≤ size) (s : Seen W L size 0 es) (A P : List ℕ)
-    (n r : ℕ) (g : entries A 0 n ≡ sorted (keysOf W es)) (z : Measured A n size P r) where
+module _ (W L size : ℕ) (es : List Element) (top : W + L ≤ 2 ^ 64) (fits : Fits W L es) (o : 1 ≤ size) (s : Seen W L size 0 es) (A : List ℕ)
+    (n : ℕ) (g : entries A 0 n ≡ sorted (keysOf W es)) where
   covers : Covers W L es (runsOf size (entries A 0 n))
   covers = subst (λ (K : List ℕ). Covers W L es (runsOf size K)) (sym g) (keys-cover W L size o es s)
 
-  keyed-long : length (encode (netEffect es)) ≡ r
-  keyed-long = covered-length W L es (runsOf size (entries A 0 n)) top fits covers ∙ sym (z .long)
+  keyed-long : length (encode (netEffect es)) ≡ total (runsOf size (entries A 0 n)) + 4
+  keyed-long = covered-length W L es (runsOf size (entries A 0 n)) top fits covers
 
-  pub keyed-no-room : (out : List ℕ) → length out < r → MadeOf es size out M.NoRoom out
-  keyed-no-room = short es r keyed-long size
+  pub keyed-no-room : (out : List ℕ) → length out < total (runsOf size (entries A 0 n)) + 4 → MadeOf es size out M.NoRoom out
+  keyed-no-room = short es (total (runsOf size (entries A 0 n)) + 4) keyed-long size
 
-  pub keyed-spotted : (l : ℕ) → r ≤ l → Spotted P W (runsOf size (entries A 0 n)) l es
-  keyed-spotted l h =
-      all-spotted W L size P (runsOf size (entries A 0 n)) l es o covers (omega (arith, z .long)) s
-      (subst (Each (λ k. getD P (numberOf k) 0 ≡ spot (placeOf k) (runsOf size (entries A 0 n)))) g (z .spots))
+  module _ (P : List ℕ) (r : ℕ) (z : Measured A n size P r) where
+    pub keyed-spotted : (l : ℕ) → r ≤ l → Spotted P W (runsOf size (entries A 0 n)) l es
+    keyed-spotted l h =
+        all-spotted W L size P (runsOf size (entries A 0 n)) l es o covers (omega (arith, z .long)) s
+        (subst (Each (λ k. getD P (numberOf k) 0 ≡ spot (placeOf k) (runsOf size (entries A 0 n)))) g (z .spots))
 
-  pub keyed-made : (k b : ℕ) (out out₁ out₂ : List ℕ) → Bytes out → r ≤ length out
-      → out₁ ≡ heads W 0 0 (runsOf size (entries A 0 n)) out → out₂ ≡ laid W (runsOf size (entries A 0 n)) out₁ es
-      → k ≡ length es → b ≡ length es * size → MadeOf es size out (M.Done k b r) out₂
-  keyed-made k b out out₁ out₂ bytes h p q i j =
-      whole es r keyed-long size k b out out₂ h
-      (q ∙ ap (λ (m : List ℕ). laid W (runsOf size (entries A 0 n)) m es) p
-      ∙ covered-made W L es (runsOf size (entries A 0 n)) out top fits covers bytes (omega (arith, z .long))) i j
+    pub keyed-made : (k b : ℕ) (out out₁ out₂ : List ℕ) → Bytes out → r ≤ length out
+        → out₁ ≡ heads W 0 0 (runsOf size (entries A 0 n)) out → out₂ ≡ laid W (runsOf size (entries A 0 n)) out₁ es
+        → k ≡ length es → b ≡ length es * size → MadeOf es size out (M.Done k b r) out₂
+    keyed-made k b out out₁ out₂ bytes h p q i j =
+        whole es r (keyed-long ∙ sym (z .long)) size k b out out₂ h
+        (q ∙ ap (λ (m : List ℕ). laid W (runsOf size (entries A 0 n)) m es) p
+        ∙ covered-made W L es (runsOf size (entries A 0 n)) out top fits covers bytes (omega (arith, z .long))) i j

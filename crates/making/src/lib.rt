@@ -57,12 +57,11 @@ fn make_vector(
     let n = gather_vector(v, vb, offsets, governing, base, room, &mut keys);
     ordering::order(&mut keys, n);
     let size = v.size as u64;
-    let mut spots = [0u32; 64];
-    let length = keyed::measure(&keys, n, size, room, &mut spots);
-    if patch.len() < length {
+    if !keyed::has_room(&keys, n, size, room, patch.len()) {
         return Making::NoRoom;
     }
-    keyed::put_heads(base, &keys, n, size, room, patch);
+    let mut spots = [0u32; 64];
+    let length = keyed::compose(base, &keys, n, size, room, &mut spots, patch);
     let stored = elements::register_of(z, vb, v.stored);
     let counts = lay_vector(
         v,

@@ -4,13 +4,14 @@ use mathlib.Core.List.{List}
 use Prim.Native.Nat.{ℕ, _+_, _*_, _/_, _^_, _≤_, _<_}
 use native.Mathlib.Omega.{arith}
 use lib.ListN.{length, drop}
+use borrow.Author.Tests.{not-true, not-false}
 use Rattle.writes.specs.Elements.{Element, InWindow}
 use Rattle.writes.proofs.LittleEndian.{bytes-at, bytes-take, bytes-drop}
 use Rattle.writes.proofs.Windows.{window-inv}
 use Rattle.intervals.specs.Intervals.{Interval, Fits}
 use Rattle.ordering.specs.Keys.{entries, sorted, Distinct}
 use Rattle.composing.specs.Composing.{heads, laid}
-use Rattle.keyed.specs.Keyed.{runsOf, Ordered, Measured}
+use Rattle.keyed.specs.Keyed.{runsOf, Ordered, Numbered}
 use Rattle.elements.specs.Machine.{register}
 use Rattle.elements.specs.Plans.{vectorActive, vectorAddress, vectorElements}
 use Rattle.checks.specs.Steps.{vectorsIn}
@@ -190,41 +191,71 @@ rising o =
     keys-ordered (a .args .base) (a .args .room) (a .args .v .size) (some k) (es a) (seen k) (K o) (n k) (ordered o)
     (omega (arith, few k, long-K o)) (low k)
 
-slice-aggregate-measure : tie.Need-slice-aggregate-measure
-slice-aggregate-measure c = long-K (c .before .before)
-
-slice-aggregate-measure-2 : tie.Need-slice-aggregate-measure-2
-slice-aggregate-measure-2 c = refl
-
-measure-requires : tie.Need-measure-requires
-measure-requires c κs =
-    let o = c .before .before .before in
+numbered : (o : In) → Numbered (K o) (n (at o)) 64
+numbered o =
     let k = at o in
     let a = st k in
-    (rising o, keys-apart (a .args .base) (a .args .room) (a .args .v .size) (some k) (es a) (seen k) (K o) (n k) (ordered o))
+    keys-apart (a .args .base) (a .args .room) (a .args .v .size) (some k) (es a) (seen k) (K o) (n k) (ordered o)
 
--- ---- after measuring: the spots
+slice-aggregate-has-room : tie.Need-slice-aggregate-has-room
+slice-aggregate-has-room c = long-K (c .before .before)
+
+has-room-requires : tie.Need-has-room-requires
+has-room-requires c κs = let o = c .before .before in (rising o, few (at o))
+
+returns : tie.Need-returns
+returns c =
+    let o = c .before .before .before .before in
+    let k = at o in
+    let a = st k in
+    keyed-no-room (a .args .base) (a .args .room) (a .args .v .size) (es a) (top k) (fits k) (some k) (seen k) (K o) (n k) (ordered o)
+    (a .args .patch .now) (c .before .has-room .ensures .1 (not-true (c .before .has-room .result) (c .if1 .taken)))
+
+slice-aggregate-compose : tie.Need-slice-aggregate-compose
+slice-aggregate-compose c = long-K (c .before .before .before .before .before)
+
+slice-aggregate-compose-2 : tie.Need-slice-aggregate-compose-2
+slice-aggregate-compose-2 c = refl
+
+compose-requires : tie.Need-compose-requires
+compose-requires c κs =
+    let o = c .before .before .before .before .before .before .before in
+    let h = c .before .before .before .before .has-room in
+    ((rising o, numbered o), (top (at o), h .ensures .0 (not-false (h .result) (c .before .before .before .if1 .left))))
+
+-- ---- after composing: the spots
 
 abbrev To : Type 0
-To = tie.After-measure
+To = tie.After-compose
 
 abbrev by : To → In
-by m = m .before .before .before .before
+by m = m .before .before .before .before .before .before .before .before
 
 abbrev P : To → List ℕ
-P m = m .measure .last .1 .1 .1 .1 .0
+P m = m .compose .last .1 .1 .1 .1 .1 .0
+
+abbrev out : To → List ℕ
+out m = m .compose .last .1 .1 .1 .1 .1 .1 .0
 
 abbrev r : To → ℕ
-r m = m .measure .result
+r m = m .compose .result
 
 long-P : (m : To) → 64 ≡ length (P m)
-long-P m = sym (m .measure .kept .1 .1 .1 .1 .0)
+long-P m = sym (m .compose .kept .1 .1 .1 .1 .1 .0)
+
+long-out : (m : To) → length (out m) ≡ length (st (at (by m)) .args .patch .now)
+long-out m = m .compose .kept .1 .1 .1 .1 .1 .1 .0
 
 abbrev base : To → tie.Start
 base m = st (at (by m))
 
 abbrev I : To → List Interval
 I m = runsOf (base m .args .v .size) (entries (K (by m)) 0 (n (at (by m))))
+
+room : (m : To) → r m ≤ length (base m .args .patch .now)
+room m =
+    let h = m .before .before .before .before .before .has-room in
+    omega (arith, m .compose .ensures .0 .long, h .ensures .0 (not-false (h .result) (m .before .before .before .before .if1 .left)))
 
 -- over a source d
 module _ (m : To) (d : List ℕ) (q : d ≡ reg (base m) (base m .args .v .stored)) where
@@ -233,8 +264,8 @@ module _ (m : To) (d : List ℕ) (q : d ≡ reg (base m) (base m .args .v .store
       let k = at (by m) in
       let a = base m in
       subst (Spotted (P m) (a .args .base) (I m) l) (sym (named k d q))
-      (keyed-spotted (a .args .base) (a .args .room) (a .args .v .size) (es a) (top k) (fits k) (some k) (seen k) (K (by m)) (P m) (n k) (r m)
-      (ordered (by m)) (m .measure .ensures) l h)
+      (keyed-spotted (a .args .base) (a .args .room) (a .args .v .size) (es a) (top k) (fits k) (some k) (seen k) (K (by m)) (n k) (ordered (by m))
+      (P m) (r m) (m .compose .ensures .0) l h)
 
   done : (x b : ℕ) (out₁ out₂ : List ℕ) → r m ≤ length (base m .args .patch .now)
       → out₁ ≡ heads (base m .args .base) 0 0 (I m) (base m .args .patch .now)
@@ -244,68 +275,47 @@ module _ (m : To) (d : List ℕ) (q : d ≡ reg (base m) (base m .args .v .store
   done x b out₁ out₂ h p o i j =
       let k = at (by m) in
       let a = base m in
-      keyed-made (a .args .base) (a .args .room) (a .args .v .size) (es a) (top k) (fits k) (some k) (seen k) (K (by m)) (P m) (n k) (r m)
-      (ordered (by m)) (m .measure .ensures) x b (a .args .patch .now) out₁ out₂
+      keyed-made (a .args .base) (a .args .room) (a .args .v .size) (es a) (top k) (fits k) (some k) (seen k) (K (by m)) (n k) (ordered (by m))
+      (P m) (r m) (m .compose .ensures .0) x b (a .args .patch .now) out₁ out₂
       (bytes-at (a .args .patch .now) (λ i. k .before .before .before .before .slice-known .given i .fits)) h p
       (o ∙ ap (laid (a .args .base) (I m) out₁) (named k d q)) (i ∙ ap length (named k d q))
       (j ∙ ap (λ (y : List Element). length y * a .args .v .size) (named k d q))
 
-returns : tie.Need-returns
-returns c =
-    let m = c .before .before in
-    let k = at (by m) in
-    let a = base m in
-    keyed-no-room (a .args .base) (a .args .room) (a .args .v .size) (es a) (top k) (fits k) (some k) (seen k) (K (by m)) (P m) (n k) (r m)
-    (ordered (by m)) (m .measure .ensures) (a .args .patch .now) (omega (arith, c .if1 .taken))
-
-slice-aggregate-put-heads : tie.Need-slice-aggregate-put-heads
-slice-aggregate-put-heads c = long-K (by (c .before .before .before))
-
-put-heads-requires : tie.Need-put-heads-requires
-put-heads-requires c κs =
-    let m = c .before .before .before .before in
-    (rising (by m), top (at (by m)), omega (arith, m .measure .ensures .long, c .before .before .if1 .left))
-
 register-of-requires-3 : tie.Need-register-of-requires-3
-register-of-requires-3 c κs = let a = base (c .before .before .before .before .before .before .before) in reg-room a (a .args .v .stored) (a .pre .0 .stored)
+register-of-requires-3 c κs = let a = base (c .before .before .before) in reg-room a (a .args .v .stored) (a .pre .0 .stored)
 
 slice-aggregate-lay-vector : tie.Need-slice-aggregate-lay-vector
-slice-aggregate-lay-vector c = long-K (by (c .before .before .before .before .before .before .before .before .before))
+slice-aggregate-lay-vector c = long-K (by (c .before .before .before .before .before))
 
 slice-aggregate-lay-vector-2 : tie.Need-slice-aggregate-lay-vector-2
-slice-aggregate-lay-vector-2 c = long-P (c .before .before .before .before .before .before .before .before .before .before)
+slice-aggregate-lay-vector-2 c = long-P (c .before .before .before .before .before .before)
 
 lay-vector-requires : tie.Need-lay-vector-requires
 lay-vector-requires c κs =
-    let m = c .before .before .before .before .before .before .before .before .before .before .before in
-    let k = at (by m) in
+    let m = c .before .before .before .before .before .before .before in
     let a = base m in
-    let d = c .before .before .before .register-of3 in
-    let h = c .before .before .before .before .before .before .put-heads in (
+    let d = c .before .before .before .register-of3 in (
       a .pre .0,
       (
         (
-          ap length (governing-is k) ∙ pred-long a,
+          ap length (governing-is (at (by m))) ∙ pred-long a,
           ap length (d .ensures) ∙ reg-long a (a .args .v .stored) (a .pre .0 .stored),
           omega (arith, vector-few (a .args .v) (a .args .vb) (a .pre .0), long-P m),
         ),
-        spotted m (d .result .now) (d .ensures) _ (omega (arith, h .kept .1 .1 .1 .1 .1 .0, c .before .before .before .before .before .before .before .before .before .if1 .left)),
+        spotted m (d .result .now) (d .ensures) _ (omega (arith, long-out m, room m)),
       ),
     )
 
 same-length : tie.Need-same-length
-same-length c =
-    c .before .before .lay-vector .kept .1 .1 .1 .1 .1 .1 .1 .1 .1 .0 ∙ c .before .before .before .before .before .before .before .before .before .put-heads .kept .1 .1 .1 .1 .1 .0
+same-length c = c .before .before .lay-vector .kept .1 .1 .1 .1 .1 .1 .1 .1 .1 .0 ∙ long-out (c .before .before .before .before .before .before .before .before .before .before)
 
 returns-2 : tie.Need-returns-2
 returns-2 c =
-    let m = c .before .before .before .before .before .before .before .before .before .before .before .before .before .before in
-    let h = c .before .before .before .before .before .before .before .before .before .put-heads in
+    let m = c .before .before .before .before .before .before .before .before .before .before in
     let l = c .before .before .lay-vector in
     let d = c .before .before .before .before .before .before .register-of3 in
-    done m (d .result .now) (d .ensures) (l .result .elements) (l .result .bytes) (h .last .1 .1 .1 .1 .1 .0)
-    (l .last .1 .1 .1 .1 .1 .1 .1 .1 .1 .0) (omega (arith, c .before .before .before .before .before .before .before .before .before .before .before .before .if1 .left)) (h .ensures) (l .ensures .1 .1) (l .ensures .0)
-    (l .ensures .1 .0)
+    done m (d .result .now) (d .ensures) (l .result .elements) (l .result .bytes) (out m) (l .last .1 .1 .1 .1 .1 .1 .1 .1 .1 .0) (room m)
+    (m .compose .ensures .1) (l .ensures .1 .1) (l .ensures .0) (l .ensures .1 .0)
 
 pub make-vector-spec : {M : Type 1} → statement M
 make-vector-spec =
@@ -317,12 +327,12 @@ make-vector-spec =
     gather-vector-requires
     slice-aggregate-order
     order-requires
-    slice-aggregate-measure
-    slice-aggregate-measure-2
-    measure-requires
+    slice-aggregate-has-room
+    has-room-requires
     returns
-    slice-aggregate-put-heads
-    put-heads-requires
+    slice-aggregate-compose
+    slice-aggregate-compose-2
+    compose-requires
     register-of-requires-3
     slice-aggregate-lay-vector
     slice-aggregate-lay-vector-2
