@@ -104,6 +104,8 @@ enum starshackle_length {
  *
  * DONE       the word is of a class: fields[0] is its class, fields[1..6] are its fields, fields[7] is 0.
  * UNDEFINED  it is of none: zeros.
+ *
+ * fields is never null.
  */
 uint64_t starshackle_decode(uint32_t word, uint64_t fields[8]);
 
@@ -117,6 +119,8 @@ uint64_t starshackle_decode(uint32_t word, uint64_t fields[8]);
  * FIELDS  zeros. The class isn't in the list, a field is outside its range, a field that the class lacks isn't 0, the first register
  *         or the multiple is one that the class can't name, an extension is given where the class has none or none where it has
  *         one, or fields[7] isn't 0. Numbers are judged whole: none is cut to its field's width.
+ *
+ * Neither is null, and they don't overlap.
  */
 uint64_t starshackle_encode(const uint64_t fields[8], uint64_t answer[5]);
 
@@ -142,6 +146,8 @@ uint64_t starshackle_encode(const uint64_t fields[8], uint64_t answer[5]);
  * FAULT  answer[0] the lowest active element with a byte outside the window, answer[1] its first address; else 0.
  *        Elements are numbered from 0, a strided store's through all its registers.
  * LENGTH, REGISTERS, WINDOW, UNDEFINED, ILLEGAL, STACK  zeros.
+ *
+ * z, p and memory may be null with length 0; x and answer never. memory and answer overlap nothing else of the call.
  */
 uint64_t starshackle_run(size_t vb, uint64_t flags, const uint64_t x[31], uint64_t sp, const uint8_t *z, size_t z_len,
                          const uint8_t *p, size_t p_len, uint64_t base, uint8_t *memory, size_t memory_len, uint32_t word,
@@ -158,6 +164,8 @@ uint64_t starshackle_run(size_t vb, uint64_t flags, const uint64_t x[31], uint64
  *        answer[0] 1 if element e is active, else 0; answer[1] its first address; answer[2] the index in z of its first byte;
  *        answer[3] how many bytes it writes. An element that isn't active has these too. Otherwise answer[0..3] are 0.
  * LENGTH, REGISTERS, UNDEFINED (the word is of no class)  zeros.
+ *
+ * z and p may be null with length 0; x and answer never. answer overlaps nothing else of the call.
  */
 uint64_t starshackle_element(size_t vb, const uint64_t x[31], uint64_t sp, const uint8_t *z, size_t z_len, const uint8_t *p,
                              size_t p_len, uint32_t word, uint64_t e, uint64_t answer[5]);
@@ -182,6 +190,8 @@ uint64_t starshackle_element(size_t vb, const uint64_t x[31], uint64_t sp, const
  * DONE     answer[2] runs, answer[3] payload bytes; else 0.
  * OUTSIDE  answer[0] the lowest run, from 0 on, that isn't wholly in the window, answer[1] its first address; else 0.
  * WINDOW, BAD_PATCH  zeros. starshackle_judge tells what is wrong with a bad patch.
+ *
+ * memory and patch may be null with length 0; answer never. memory and answer overlap nothing else of the call.
  */
 uint64_t starshackle_apply(uint64_t base, uint8_t *memory, size_t memory_len, const uint8_t *patch, size_t patch_len,
                            uint64_t answer[5]);
@@ -196,6 +206,8 @@ uint64_t starshackle_apply(uint64_t base, uint8_t *memory, size_t memory_len, co
  * DONE       they are: answer[2] runs, answer[3] payload bytes; else 0.
  * BAD_PATCH  they aren't: answer[0] how many runs from the front are whole and acceptable, answer[1] the index where these end and
  *            something begins that can't be accepted: a run, an end, or an end with bytes behind it; else 0.
+ *
+ * patch may be null with length 0; answer never. answer overlaps nothing else of the call.
  */
 uint64_t starshackle_judge(const uint8_t *patch, size_t patch_len, uint64_t answer[5]);
 
@@ -213,8 +225,10 @@ uint64_t starshackle_judge(const uint8_t *patch, size_t patch_len, uint64_t answ
  * DONE     answer[2] active elements, answer[3] bytes moved, as in starshackle_run; answer[4] the patch's length; else 0. The patch
  *          is the first answer[4] bytes of the buffer; bytes behind it are as they came.
  * FAULT    as in starshackle_run.
- * NO_ROOM  zeros.
+ * NO_ROOM  zeros: the patch has more than patch_len bytes.
  * LENGTH, REGISTERS, WINDOW, UNDEFINED, ILLEGAL, STACK  zeros.
+ *
+ * z, p and patch may be null with length 0; x and answer never. patch and answer overlap nothing else of the call.
  */
 uint64_t starshackle_make_patch(size_t vb, uint64_t flags, const uint64_t x[31], uint64_t sp, const uint8_t *z, size_t z_len,
                                 const uint8_t *p, size_t p_len, uint64_t base, uint64_t length, uint32_t word, uint8_t *patch,

@@ -31,6 +31,13 @@ Memory and patch are bytearrays that a call changes in place; every verdict but 
 bytes or bytearrays and are only read. An argument of another type is a TypeError, a number that is out of range a ValueError; both
 are raised before the model is called. Whatever passes gets a verdict, and a verdict never raises anything.
 
+>>> decode("A16F6000")
+Traceback (most recent call last):
+TypeError: word must be an integer, not str
+>>> decode(1 << 32)
+Traceback (most recent call last):
+ValueError: word must be from 0x0 to 0xffffffff, not 0x100000000
+
 A call holds the interpreter's lock, so that no other thread changes what is lent.
 """
 
@@ -282,7 +289,8 @@ def _number(name, value, bits, signed=False):
         raise TypeError(f"{name} must be an integer, not {type(value).__name__}") from None
     least, most = (-1 << bits - 1, (1 << bits - 1) - 1) if signed else (0, (1 << bits) - 1)
     if not least <= number <= most:
-        raise ValueError(f"{name} must be from {least} to {most:#x}, not {number:#x}")
+        found = f"{number:#x}" if number.bit_length() <= 128 else f"a number of {number.bit_length()} bits"
+        raise ValueError(f"{name} must be from {least:#x} to {most:#x}, not {found}")
     return number
 
 

@@ -416,7 +416,7 @@ class Random(unittest.TestCase):
 
 
 class Declarations(unittest.TestCase):
-    """The header's and this module's declarations say what the proved source says."""
+    """The declarations of the header, the Rust crate and this module say what the proved source says."""
 
     ROOT = pathlib.Path(__file__).resolve().parents[2]
     NUMBERS = {"u32": ("uint32_t", ctypes.c_uint32), "u64": ("uint64_t", ctypes.c_uint64), "usize": ("size_t", ctypes.c_size_t)}
@@ -435,19 +435,42 @@ class Declarations(unittest.TestCase):
         self.assertEqual(entry, "u8")
         return [f"{const}uint8_t *{name}", f"size_t {name}_len"], [ctypes.c_void_p, ctypes.c_size_t]
 
+    def source(self):
+        """The functions of the source, with names and types of their parameters."""
+        text = "\n".join(path.read_text(encoding="utf-8") for path in sorted(self.ROOT.glob("crates/starshackle/src/*.rt")))
+        functions = {}
+        for function, listed in re.findall(r'extern "C" fn (\w+)\(([^)]*)\) -> u64', text):
+            functions[function] = [part.strip().split(": ", 1) for part in listed.split(",") if part.strip()]
+        self.assertEqual(text.count('extern "C"'), len(functions))
+        self.assertEqual(len(functions), 7)
+        return functions
+
     def test_declarations(self):
-        source = "\n".join(path.read_text(encoding="utf-8") for path in sorted(self.ROOT.glob("crates/starshackle/src/*.rt")))
         header = (self.ROOT / "include/starshackle.h").read_text(encoding="utf-8")
         wanted, types = {}, {}
-        for function, listed in re.findall(r'extern "C" fn (\w+)\(([^)]*)\) -> u64', source):
-            pairs = [self.parameters(*part.strip().split(": ", 1)) for part in listed.split(",") if part.strip()]
+        for function, listed in self.source().items():
+            pairs = [self.parameters(*parameter) for parameter in listed]
             wanted[function] = ", ".join(text for texts, _ in pairs for text in texts)
             types[function] = [type_ for _, some in pairs for type_ in some]
         declared = {function: " ".join(listed.split()) for function, listed in re.findall(r"^uint64_t (\w+)\(([^)]*)\);", header, re.M)}
-        self.assertEqual(source.count('extern "C"'), len(wanted))
-        self.assertEqual(len(wanted), 7)
         self.assertEqual(declared, wanted)
         self.assertEqual(starshackle._PARAMETERS, types)
+
+    def rust(self, name, kind):
+        """A parameter of the source as the Rust crate declares it."""
+        kind = kind.replace("[u64; 8]", "Fields").replace("[u64; 5]", "Answer")
+        if not kind.startswith("&"):
+            return f"{name}: {kind}"
+        pointer = "*mut" if kind.startswith("&mut ") else "*const"
+        pointed = kind.replace("&mut ", "").replace("&", "")
+        return f"{name}: {pointer} u8, {name}_len: usize" if pointed == "[u8]" else f"{name}: {pointer} {pointed}"
+
+    def test_rust_declarations(self):
+        text = (self.ROOT / "rust/starshackle/src/ffi.rs").read_text(encoding="utf-8")
+        found = re.findall(r"^    fn (starshackle_\w+)\(([^)]*)\) -> u64;", text, re.M)
+        declared = {function: " ".join(listed.split()).rstrip(",") for function, listed in found}
+        wanted = {function: ", ".join(self.rust(*parameter) for parameter in listed) for function, listed in self.source().items()}
+        self.assertEqual(declared, wanted)
 
     def test_numbers(self):
         header = (self.ROOT / "include/starshackle.h").read_text(encoding="utf-8")

@@ -124,7 +124,7 @@ module _ (f : Flags) (m : Machine) (W L word : ℕ) where
         (scatter-sound m (o .low) (o .high) (o .sixteen) g i, done-store (Scatter g) d n b e _ (scatter-elements m bytes g i))
     done-as (Strided g) d a n b e =
         let i = strided-in g a in
-        (strided-sound m (o .low) (o .high) (o .sixteen) g i, done-store (Strided g) d n b e _ (strided-elements m g))
+        (strided-sound m (o .low) (o .high) (o .sixteen) g i, done-store (Strided g) d n b e _ (strided-elements m g i))
     done-as (Quadword g) d a n b e =
         let i = quadword-in g a in
         (quadword-sound m (o .low) (o .high) (o .sixteen) g i, done-store (Quadword g) d n b e _ (quadword-elements m g i))

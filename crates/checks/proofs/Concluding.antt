@@ -1,10 +1,10 @@
 -- What a scan says of the first element outside the window, and the verdict that follows. Assumes nothing.
 use mathlib.Core.Path.{_≡_, refl, sym, ap, ap₂, _∙_}
-use mathlib.Core.Bool.{Bool, true, false, not, cond}
+use mathlib.Core.Bool.{Bool, true, false, not, cond, _&&_}
 use mathlib.Core.List.{List, [], _∷_}
 use mathlib.Core.Logic.{⊎-elim}
 use mathlib.Core.Option.{Option, none, some}
-use Prim.Native.Nat.{ℕ, suc, _+_, _*_, _%_, _≤_}
+use Prim.Native.Nat.{ℕ, _*_, _%_, _≤_}
 use native.Mathlib.Omega.{arith}
 use lib.Dec.{eqb}
 use lib.ListN.{length}
@@ -14,7 +14,7 @@ use Rattle.encoding.proofs.Rows.{flag-inj}
 use Rattle.encoding.proofs.Statements.{one-of}
 use Rattle.writes.specs.Elements.{Element}
 use Rattle.writes.specs.Window.{inWindow}
-use Rattle.checks.specs.Scanning.{scanFrom}
+use Rattle.checks.specs.Scanning.{scanOf}
 use Rattle.checks.specs.Verdicts.{lengthOk, flagOn, illegal, isSome, stack, firstOutside, concluded, settled}
 use Rattle.checks.specs.declared.Flags.{Flags}
 use Rattle.checks.specs.declared.Scan.the-variants.{Clear, Out}
@@ -22,20 +22,14 @@ use Rattle.checks.specs.declared.Verdict.the-variants.{Done, Stack, Faul
 
 -- ---- scans
 
-pub record Cleared (W L k n : ℕ) (xs : List Element) : Type 0 where
-  pub none-out : firstOutside W L xs ≡ none
-  pub total : n ≡ k + length xs
-
-pub scan-clear : (W L k n : ℕ) (xs : List Element) → Clear n ≡ scanFrom W L k xs → Cleared W L k n xs
-unfolding scanFrom firstOutside
-scan-clear W L k n [] e = let q : n ≡ k = cc in record { none-out = refl; total = omega arith }
-scan-clear W L k n (x ∷ xs) e = go (inWindow W L (x .address) (length (x .bytes))) refl e (λ q. scan-clear W L (suc k) n xs q)
+pub scan-clear : (W L : ℕ) (xs : List Element) → Clear ≡ scanOf W L xs → firstOutside W L xs ≡ none
+unfolding scanOf firstOutside
+scan-clear W L [] e = refl
+scan-clear W L (x ∷ xs) e = go (inWindow W L (x .address) (length (x .bytes))) refl e (scan-clear W L xs)
   where
-    go : (b : Bool) → inWindow W L (x .address) (length (x .bytes)) ≡ b → Clear n ≡ cond b (scanFrom W L (suc k) xs) (Out (x .number) (x .address))
-        → (Clear n ≡ scanFrom W L (suc k) xs → Cleared W L (suc k) n xs) → Cleared W L k n (x ∷ xs)
-    go true i q rest =
-        let r = rest q in
-        record { none-out = ap (λ (b : Bool). cond b (firstOutside W L xs) (some x)) i ∙ r .none-out; total = omega (arith, r .total) }
+    go : (b : Bool) → inWindow W L (x .address) (length (x .bytes)) ≡ b → Clear ≡ cond b (scanOf W L xs) (Out (x .number) (x .address))
+        → (Clear ≡ scanOf W L xs → firstOutside W L xs ≡ none) → firstOutside W L (x ∷ xs) ≡ none
+    go true i q rest = ap (λ (b : Bool). cond b (firstOutside W L xs) (some x)) i ∙ rest q
     go false i q rest = let z : _≡_ {A = ℕ} 0 1 = cc in absurd (omega arith)
 
 pub record Left (W L e a : ℕ) (xs : List Element) : Type 0 where
@@ -43,30 +37,29 @@ pub record Left (W L e a : ℕ) (xs : List Element) : Type 0 where
   pub out : firstOutside W L xs ≡ some x
   pub number : e ≡ x .number
   pub address : a ≡ x .address
-  pub there : true ≡ isSome xs
 
-pub scan-out : (W L k e a : ℕ) (xs : List Element) → Out e a ≡ scanFrom W L k xs → Left W L e a xs
-unfolding scanFrom firstOutside
-scan-out W L k e a [] q = let z : _≡_ {A = ℕ} 0 1 = cc in absurd (omega arith)
-scan-out W L k e a (x ∷ xs) q = go (inWindow W L (x .address) (length (x .bytes))) refl q (λ r. scan-out W L (suc k) e a xs r)
+pub scan-out : (W L e a : ℕ) (xs : List Element) → Out e a ≡ scanOf W L xs → Left W L e a xs
+unfolding scanOf firstOutside
+scan-out W L e a [] q = let z : _≡_ {A = ℕ} 0 1 = cc in absurd (omega arith)
+scan-out W L e a (x ∷ xs) q = go (inWindow W L (x .address) (length (x .bytes))) refl q (scan-out W L e a xs)
   where
-    go : (b : Bool) → inWindow W L (x .address) (length (x .bytes)) ≡ b → Out e a ≡ cond b (scanFrom W L (suc k) xs) (Out (x .number) (x .address))
-        → (Out e a ≡ scanFrom W L (suc k) xs → Left W L e a xs) → Left W L e a (x ∷ xs)
+    go : (b : Bool) → inWindow W L (x .address) (length (x .bytes)) ≡ b → Out e a ≡ cond b (scanOf W L xs) (Out (x .number) (x .address))
+        → (Out e a ≡ scanOf W L xs → Left W L e a xs) → Left W L e a (x ∷ xs)
     go true i r rest =
         let l = rest r in
-        record {
-          x = l .x;
-          out = ap (λ (b : Bool). cond b (firstOutside W L xs) (some x)) i ∙ l .out;
-          number = l .number;
-          address = l .address;
-          there = refl;
-        }
-    go false i r rest = record { x = x; out = ap (λ (b : Bool). cond b (firstOutside W L xs) (some x)) i; number = cc; address = cc; there = refl }
+        record { x = l .x; out = ap (λ (b : Bool). cond b (firstOutside W L xs) (some x)) i ∙ l .out; number = l .number; address = l .address }
+    go false i r rest = record { x = x; out = ap (λ (b : Bool). cond b (firstOutside W L xs) (some x)) i; number = cc; address = cc }
 
--- as many as there are, and some
-pub some-active : (n : ℕ) (xs : List Element) → n ≡ length xs → not (eqb n 0) ≡ isSome xs
-some-active n [] e = ap not (eq-eqb n 0 e)
-some-active n (x ∷ xs) e = ap not (ne-eqb n 0 (λ z. omega arith))
+-- what doesn't refuse a store with an active element refuses none
+pub never-stack : (f : Flags) (sp : ℕ) (s b : Bool) (x : Element) → b ≡ stack f sp s (x ∷ []) → b ≡ false → (xs : List Element) → false ≡ stack f sp s xs
+never-stack f sp s b x e q [] = go s (f .«sp_check») (not (eqb (sp % 16) 0)) (sym e ∙ q)
+  where
+    go : (s c d : Bool) → (s && c && d && true) ≡ false → false ≡ (s && c && d && f .«sp_idle»)
+    go false c d k = refl
+    go true false d k = refl
+    go true true false k = refl
+    go true true true k = let z : _≡_ {A = ℕ} 0 1 = cc in absurd (omega arith)
+never-stack f sp s b x e q (y ∷ ys) = sym q ∙ e
 
 -- ---- verdicts 6 and 7
 

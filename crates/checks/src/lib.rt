@@ -38,9 +38,9 @@ pub enum Verdict {
     Fault { element: u64, address: u64 },
 }
 
-// A store's active elements against the window: their number where all lie in it, or the lowest that doesn't.
+// A store's active elements against the window: all lie in it, or the lowest that doesn't.
 pub enum Scan {
-    Clear { active: u64 },
+    Clear,
     Out { element: u64, address: u64 },
 }
 

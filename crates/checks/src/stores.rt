@@ -1,15 +1,16 @@
 // Checking a decoded store: verdicts 4 to 7.
 ghost use mathlib.Core.Path.{_≡_};
-ghost use mathlib.Core.Bool.{false};
+ghost use mathlib.Core.Bool.{Bool, true, false};
 ghost use mathlib.Core.List.{List};
-ghost use Prim.Native.Nat.{ℕ, _*_};
+ghost use Prim.Native.Nat.{ℕ, _*_, _/_};
 ghost use lib.ListN.{length};
 ghost use Rattle.encoding.specs.Encoding.{refused};
 ghost use Rattle.writes.specs.Elements.{Element};
+ghost use Rattle.writes.specs.Window.{windowOk};
 ghost use Rattle.elements.specs.Machine.{machine};
-ghost use Rattle.elements.specs.Plans.{VectorSound, StridedSound, stridedElements};
+ghost use Rattle.elements.specs.Plans.{VectorSound, vectorElements, StridedSound, stridedElements};
 ghost use Rattle.checks.specs.Scanning.{scanOf};
-ghost use Rattle.checks.specs.Verdicts.{settled, verdictFor};
+ghost use Rattle.checks.specs.Verdicts.{stack, settled, verdictFor};
 ghost use Rattle.checks.specs.Steps.{Sound, vectorsIn, planOf, checkedBy};
 use super::Checked;
 use super::Flags;
@@ -19,7 +20,9 @@ use super::is_illegal;
 use super::is_off;
 use super::is_stack;
 use super::strided::scan_strided;
+use super::strided::some_strided;
 use super::vectors::scan_vector;
+use super::vectors::some_vector;
 use elements::StridedPlan;
 use elements::VectorPlan;
 use encoding::Decoded;
@@ -28,30 +31,51 @@ use encoding::ScatterFields;
 use encoding::Store;
 use encoding::StridedFields;
 
-// Verdicts 6 and 7 by what the scan found, or the plan.
-fn settle(scan: Scan, on_stack: bool, flags: Flags, sp: u64, plan: Checked) -> Checked
-    ensures { λ r. ⌜ ((W L n : ℕ) (xs : List Element) → scan ≡ scanOf W L xs → r ≡ checkedBy (settled flags sp «on_stack» W L n xs) plan) ⌝ }
+// Verdicts 6 and 7 by whether the stack check refuses and what the scan found, or the plan.
+fn settle(scan: Scan, refuses: bool, plan: Checked) -> Checked
+    ensures { λ r. ⌜ ((f : Flags) (sp : ℕ) (s : Bool) (W L n : ℕ) (xs : List Element) → scan ≡ scanOf W L xs → refuses ≡ stack f sp s xs → r ≡ checkedBy (settled f sp s W L n xs) plan) ⌝ }
 {
-    match scan {
-        Scan::Out { element, address } => {
-            if is_stack(flags, sp, on_stack, true) {
-                return Checked::Refused {
-                    verdict: Verdict::Stack,
-                };
-            }
-            Checked::Refused {
-                verdict: Verdict::Fault { element, address },
-            }
-        }
-        Scan::Clear { active } => {
-            if is_stack(flags, sp, on_stack, active != 0) {
-                return Checked::Refused {
-                    verdict: Verdict::Stack,
-                };
-            }
-            plan
-        }
+    if refuses {
+        return Checked::Refused {
+            verdict: Verdict::Stack,
+        };
     }
+    match scan {
+        Scan::Out { element, address } => Checked::Refused {
+            verdict: Verdict::Fault { element, address },
+        },
+        Scan::Clear => plan,
+    }
+}
+
+// Whether the stack check refuses a scatter or quadword store. Activity is looked at only where it decides.
+fn stack_vector(
+    v: VectorPlan,
+    vb: usize,
+    governing: &[u8],
+    on_stack: bool,
+    flags: Flags,
+    sp: u64,
+) -> bool
+    requires { ⌜ VectorSound v vb ⌝ }
+    requires { ⌜ length (now governing) ≡ vb / 8 ⌝ }
+    ensures { λ r. ⌜ ((offsets stored : List ℕ) → r ≡ stack flags sp «on_stack» (vectorElements v offsets (now (governing .entry)) stored)) ⌝ }
+{
+    if !is_stack(flags, sp, on_stack, true) {
+        return false;
+    }
+    is_stack(flags, sp, on_stack, some_vector(v, vb, governing))
+}
+
+// Whether the stack check refuses a strided store.
+fn stack_strided(s: StridedPlan, vb: usize, on_stack: bool, flags: Flags, sp: u64) -> bool
+    requires { ⌜ StridedSound s vb ⌝ }
+    ensures { λ r. ⌜ ((z : List ℕ) → r ≡ stack flags sp «on_stack» (stridedElements s vb z)) ⌝ }
+{
+    if !is_stack(flags, sp, on_stack, true) {
+        return false;
+    }
+    is_stack(flags, sp, on_stack, some_strided(s, vb))
 }
 
 // From verdict 6 on, for a scatter or quadword store.
@@ -67,13 +91,14 @@ fn check_vector(
     room: u64,
 ) -> Checked
     requires { ⌜ VectorSound v vb ⌝ }
-    requires { ⌜ Sound vb (now z) (now p) ⌝ }
+    requires { ⌜ Sound vb (now z) (now p) × (windowOk base room ≡ true) ⌝ }
     ensures { λ r. ⌜ r ≡ checkedBy (settled flags sp «on_stack» base room (v .size) (vectorsIn v vb (now (z .entry)) (now (p .entry)))) (Checked.Vector v) ⌝ }
 {
     let offsets = elements::register_of(z, vb, v.offsets);
     let governing = elements::register_of(p, vb / 8, v.governing);
+    let refuses = stack_vector(v, vb, governing, on_stack, flags, sp);
     let scan = scan_vector(v, vb, offsets, governing, base, room);
-    settle(scan, on_stack, flags, sp, Checked::Vector { plan: v })
+    settle(scan, refuses, Checked::Vector { plan: v })
 }
 
 // From verdict 6 on, for a strided store.
@@ -88,11 +113,12 @@ fn check_strided(
     room: u64,
 ) -> Checked
     requires { ⌜ StridedSound s vb ⌝ }
-    requires { ⌜ length (now z) ≡ 32 * vb ⌝ }
+    requires { ⌜ (length (now z) ≡ 32 * vb) × (windowOk base room ≡ true) ⌝ }
     ensures { λ r. ⌜ r ≡ checkedBy (settled flags sp «on_stack» base room (s .size) (stridedElements s vb (now (z .entry)))) (Checked.Strided s) ⌝ }
 {
+    let refuses = stack_strided(s, vb, on_stack, flags, sp);
     let scan = scan_strided(s, vb, base, room);
-    settle(scan, on_stack, flags, sp, Checked::Strided { plan: s })
+    settle(scan, refuses, Checked::Strided { plan: s })
 }
 
 fn scatter(
@@ -107,7 +133,7 @@ fn scatter(
     room: u64,
 ) -> Checked
     requires { ⌜ refused (Store.Scatter f) ≡ false ⌝ }
-    requires { ⌜ Sound vb (now z) (now p) ⌝ }
+    requires { ⌜ Sound vb (now z) (now p) × (windowOk base room ≡ true) ⌝ }
     ensures { λ r. ⌜ r ≡ checkedBy (verdictFor flags (machine vb (now (x .entry)) sp (now (z .entry)) (now (p .entry))) base room (Decoded.Known (Store.Scatter f))) (planOf (machine vb (now (x .entry)) sp (now (z .entry)) (now (p .entry))) (Store.Scatter f)) ⌝ }
 {
     if is_off(flags, 0) {
@@ -136,7 +162,7 @@ fn quadword(
     room: u64,
 ) -> Checked
     requires { ⌜ refused (Store.Quadword f) ≡ false ⌝ }
-    requires { ⌜ Sound vb (now z) (now p) ⌝ }
+    requires { ⌜ Sound vb (now z) (now p) × (windowOk base room ≡ true) ⌝ }
     ensures { λ r. ⌜ r ≡ checkedBy (verdictFor flags (machine vb (now (x .entry)) sp (now (z .entry)) (now (p .entry))) base room (Decoded.Known (Store.Quadword f))) (planOf (machine vb (now (x .entry)) sp (now (z .entry)) (now (p .entry))) (Store.Quadword f)) ⌝ }
 {
     if is_off(flags, 2) {
@@ -165,7 +191,7 @@ fn strided(
     room: u64,
 ) -> Checked
     requires { ⌜ refused (Store.Strided f) ≡ false ⌝ }
-    requires { ⌜ Sound vb (now z) (now p) ⌝ }
+    requires { ⌜ Sound vb (now z) (now p) × (windowOk base room ≡ true) ⌝ }
     ensures { λ r. ⌜ r ≡ checkedBy (verdictFor flags (machine vb (now (x .entry)) sp (now (z .entry)) (now (p .entry))) base room (Decoded.Known (Store.Strided f))) (planOf (machine vb (now (x .entry)) sp (now (z .entry)) (now (p .entry))) (Store.Strided f)) ⌝ }
 {
     if is_off(flags, 1) {
@@ -195,7 +221,7 @@ pub fn check_store(
     room: u64,
 ) -> Checked
     requires { ⌜ refused store ≡ false ⌝ }
-    requires { ⌜ Sound vb (now z) (now p) ⌝ }
+    requires { ⌜ Sound vb (now z) (now p) × (windowOk base room ≡ true) ⌝ }
     ensures { λ r. ⌜ r ≡ checkedBy (verdictFor flags (machine vb (now (x .entry)) sp (now (z .entry)) (now (p .entry))) base room (Decoded.Known store)) (planOf (machine vb (now (x .entry)) sp (now (z .entry)) (now (p .entry))) store) ⌝ }
 {
     match store {

@@ -1,10 +1,12 @@
 // Decoded stores as eight numbers, and back: class, Zm or Rm, extension, Pg or Pc, Rn or Zn, Zt or first register, the signed
 // multiple in two's complement, zero.
 ghost use mathlib.Core.Path.{_≡_};
+ghost use Prim.Native.Nat.{_<_};
 ghost use mathlib.Core.List.{_∷_, []};
 ghost use mir.Syntax.{w64};
 ghost use mir.Val.{toZ};
-ghost use Rattle.encoding.specs.Classes.{Feature, SVE, SME2, SVE2p1, flag};
+ghost use Rattle.encoding.specs.Classes.{Feature, SVE, SME2, SVE2p1, classAt, flag};
+ghost use Rattle.encoding.specs.Decoding.{storeOf};
 ghost use Rattle.encoding.specs.Answers.{extensionNumber, storeNumbers};
 ghost use Rattle.codec.specs.Codec.{entry, extensionGiven, storeGiven, misgiven, encodeGiven, narrow, Narrow};
 use encoding::Encoded;
@@ -80,18 +82,22 @@ fn quadword_numbers(f: QuadwordFields) -> [u64; 8]
     ]
 }
 
-// A store as eight numbers.
-pub fn numbers_of(store: Store) -> [u64; 8]
-    ensures { λ r. ⌜ r ≡ storeNumbers store ⌝ }
+// The store of class k + 1 that a word is, as eight numbers.
+pub fn numbers_at(k: usize, word: u32) -> [u64; 8]
+    requires { ⌜ k < 12 ⌝ }
+    ensures { λ r. ⌜ r ≡ storeNumbers (storeOf (classAt k) word) ⌝ }
 {
-    match store {
-        Store::Scatter(f) => {
-            let extension = f.extension;
-            scatter_numbers(f, number_of(extension))
-        }
-        Store::Strided(f) => strided_numbers(f, elements::bits_of(f.multiple)),
-        Store::Quadword(f) => quadword_numbers(f),
+    let feature = encoding::table::feature_at(k);
+    if feature == 0 {
+        let f = encoding::scatter(k, word);
+        let extension = f.extension;
+        return scatter_numbers(f, number_of(extension));
     }
+    if feature == 1 {
+        let f = encoding::strided(k, word);
+        return strided_numbers(f, elements::bits_of(f.multiple));
+    }
+    quadword_numbers(encoding::quadword(k, word))
 }
 
 fn extension_of(n: u64) -> Extension

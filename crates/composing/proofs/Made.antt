@@ -14,9 +14,9 @@ use Rattle.writes.proofs.Runs.{runs-writesOf, ascending-writesOf, runsThen-appe
 use Rattle.writes.proofs.Lookup.{or-none, ext-lookup}
 use Rattle.writes.proofs.Net.{lookup-splice, lookup-spliceAll, ascending-spliceAll}
 use Rattle.writes.proofs.Overlay.{length-over}
-use Rattle.intervals.specs.Intervals.{Interval, interval, inserts, Separate, AllHeld, Fits}
+use Rattle.composing.specs.Intervals.{Interval, interval, Separate, AllHeld, Fits}
 use Rattle.composing.specs.Composing.{headBytes, heads, spot, laid, total}
-use Rattle.composing.proofs.Covering.{isSome, Covers, covers-inserts}
+use Rattle.composing.proofs.Covering.{isSome, Covers}
 use Rattle.composing.proofs.Shapes.{Shape, length-shape, length-runs, some-shape, apart-shape}
 use Rattle.composing.proofs.Shapes.{headed, headed-shape, heads-runs, length-headBytes}
 use Rattle.composing.proofs.Laying.{put, Put, put-one, spot-room}
@@ -145,16 +145,6 @@ covered-made W L es I out t h v b room =
     ∙ ap (λ (z : ℕ). runsThen (puts rs es) (trailer z ++ rest)) w
     ∙ runsThen-append (puts rs es) (trailer (length I)) rest
     ∙ ap₂ (λ (z : List ℕ) (n : ℕ). z ++ drop n out) (patch-of W L es I t h v rs k) (sym (patch-length W L es I t h v rs k))
-
--- with the intervals of the elements taken in
-pub made-length : (W L : ℕ) (es : List Element) → W + L ≤ 2 ^ 64 → Fits W L es
-    → length (encode (netEffect es)) ≡ total (inserts W [] es) + 4
-made-length W L es t h = covered-length W L es (inserts W [] es) t h (covers-inserts W L es h)
-
-pub made : (W L : ℕ) (es : List Element) (out : List ℕ) → W + L ≤ 2 ^ 64 → Fits W L es → Bytes out
-    → total (inserts W [] es) + 4 ≤ length out
-    → laid W (inserts W [] es) (heads W 0 0 (inserts W [] es) out) es ≡ encode (netEffect es) ++ drop (length (encode (netEffect es))) out
-made W L es out t h b room = covered-made W L es (inserts W [] es) out t h (covers-inserts W L es h) b room
 
 -- ---- the buffer keeps its length
 

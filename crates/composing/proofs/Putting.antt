@@ -1,6 +1,6 @@
 -- Bytes put over a buffer: one part after another, and parts of a buffer in two. Assumes nothing.
 use mathlib.Core.Path.{_≡_, refl, sym, ap, ap₂, _∙_}
-use Prim.Native.Nat.{ℕ, _+_, _/_, _%_, _≤_, _<_}
+use Prim.Native.Nat.{ℕ, _+_, _-_, _/_, _%_, _≤_, _<_}
 use mathlib.Core.List.{List, [], _∷_, _++_, append-assoc}
 use native.Mathlib.Omega.{arith}
 use native.Mathlib.Numerals.{add-one}
@@ -9,25 +9,12 @@ use lib.Seq.{take-append-add, drop-append-add, take-append-le, drop-append-le, t
 use Rattle.writes.specs.LittleEndian.{leBytes}
 use Rattle.writes.specs.Encoding.{trailer}
 use Rattle.writes.specs.Elements.{over}
+use Rattle.writes.proofs.Parts.{over-join}
 use Rattle.composing.specs.Composing.{headBytes}
 
 -- ---- one part after another
 
-over-join : (m : List ℕ) (at : ℕ) (q r : List ℕ) → at + length q + length r ≤ length m
-    → over (over m at q) (at + length q) r ≡ over m at (q ++ r)
-unfolding over
-over-join m at q r h =
-    let t : ℕ = at + length q in
-    let lp : length (take at m ++ q) ≡ t = omega (arith, length-append (take at m) q, length-take-le at m (omega arith)) in
-    let e : take at m ++ (q ++ drop t m) ≡ (take at m ++ q) ++ drop t m = simp append-assoc in
-    let e1 : take t (take at m ++ (q ++ drop t m)) ≡ take at m ++ q = ap (take t) e ∙ take-at (take at m ++ q) (drop t m) t lp in
-    let e2 : drop (t + length r) (take at m ++ (q ++ drop t m)) ≡ drop (t + length r) m =
-    ap (drop (t + length r)) e ∙ sym (drop-drop (length r) t ((take at m ++ q) ++ drop t m))
-    ∙ ap (drop (length r)) (drop-at (take at m ++ q) (drop t m) t lp) ∙ drop-drop (length r) t m in
-    let w : t + length r ≡ at + length (q ++ r) = omega (arith, length-append q r) in
-    ap₂ (λ (x y : List ℕ). x ++ (r ++ y)) e1 (e2 ∙ ap (λ (z : ℕ). drop z m) w) ∙ simp append-assoc
-
--- the same, where the place is known by its number
+-- where the place is known by its number
 over-next : (m m₁ m₂ : List ℕ) (at t : ℕ) (q r : List ℕ) → m₁ ≡ over m at q → t ≡ at + length q → at + length q + length r ≤ length m
     → m₂ ≡ over m₁ t r → m₂ ≡ over m at (q ++ r)
 over-next m m₁ m₂ at t q r e w h e₂ = e₂ ∙ ap₂ (λ (x : List ℕ) (z : ℕ). over x z r) e w ∙ over-join m at q r h
@@ -106,3 +93,10 @@ over-at h t at d p e = ap (λ (z : ℕ). over (h ++ t) z p) e ∙ over-front h t
 pub over-start : (Y p : List ℕ) → over Y 0 p ≡ p ++ drop (length p) Y
 unfolding over
 over-start Y p = let w : 0 + length p ≡ length p = omega arith in ap (λ (z : ℕ). p ++ drop z Y) w
+
+-- a part of the buffer lent for p, and back
+pub part-over : (m p d : List ℕ) (at n : ℕ) → d ≡ p → length p ≡ n → take at m ++ (d ++ drop (at + n - at) (drop at m)) ≡ over m at p
+unfolding over
+part-over m p d at n e l =
+    let w : at + (at + n - at) ≡ at + length p = omega arith in
+    ap₂ (λ (x y : List ℕ). take at m ++ (x ++ y)) e (drop-drop (at + n - at) at m ∙ ap (λ (z : ℕ). drop z m) w)

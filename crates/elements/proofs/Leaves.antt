@@ -1,16 +1,16 @@
 -- What the functions on single elements answer. Assumes nothing.
-use mathlib.Core.Path.{_≡_, refl, sym, ap, ap₂, _∙_, subst}
-use mathlib.Core.Bool.{Bool, true, false, not, cond, _&&_}
+use mathlib.Core.Path.{_≡_, sym, ap, _∙_}
+use mathlib.Core.Bool.{Bool, true, false, cond}
 use mathlib.Core.List.{List}
 use Prim.Native.Nat.{ℕ, _+_, _-_, _*_, _/_, _%_, _^_, _≤_, _<_}
-use native.Mathlib.Nat.{div-add-mod', div-mul-le-self, mod-eq-of-lt, add-sub-cancel-left}
+use native.Mathlib.Nat.{add-sub-cancel-left}
 use native.Mathlib.Omega.{arith}
-use lib.Dec.{eqb, ltb, leb}
+use lib.Dec.{eqb}
 use lib.ListN.{getD, take, drop}
 use borrow.Author.Tests.{eq-eqb, ne-eqb, lt-ltb, le-ltb}
 use Rattle.writes.specs.LittleEndian.{leVal}
 use Rattle.elements.specs.Machine.{bitAt}
-use Rattle.elements.specs.Counter.{lowestSet, unitOf, countIn, maskBit}
+use Rattle.elements.specs.Counter.{lowestSet, countIn}
 use Rattle.elements.specs.Stores.{signed32}
 
 pub bit-is : (s : List ℕ) (i b : ℕ) → b ≡ getD s (i / 8) 0 → eqb (b / 2 ^ (i % 8) % 2) 1 ≡ bitAt s i
@@ -60,55 +60,6 @@ module _ (v : ℕ) where
 pub counted-is : (v s : ℕ) → s ≡ lowestSet v → v % 32768 / 2 ^ (s + 1) ≡ countIn v
 unfolding countIn
 counted-is v s e = ap (λ (k : ℕ). v % 32768 / 2 ^ (k + 1)) e
-
--- bit i of the mask: in a counter that counts, at a multiple of its unit, below or from its count on
-module _ (v i s n : ℕ) (e : s ≡ lowestSet v) (q : n ≡ countIn v) (h : i < 65536) where
-  in-mask : Bool
-  in-mask = cond (ltb v (2 ^ 15)) (ltb (i / unitOf v) (countIn v)) (leb (countIn v) (i / unitOf v))
-
-  pub mask-empty : v % 16 ≡ 0 → false ≡ maskBit v i
-  unfolding maskBit in-mask
-  mask-empty z = sym (ap (λ (b : Bool). not b && (eqb (i % unitOf v) 0 && in-mask)) (eq-eqb (v % 16) 0 z))
-
-  module _ (f : v % 16 ≡ 0 → ⊥) where
-    counting : maskBit v i ≡ eqb (i % unitOf v) 0 && in-mask
-    unfolding maskBit in-mask
-    counting = ap (λ (b : Bool). not b && (eqb (i % unitOf v) 0 && in-mask)) (ne-eqb (v % 16) 0 f)
-
-    multiple : ℕ
-    multiple = i / 2 ^ s * 2 ^ s
-
-    small : i / 2 ^ s * 2 ^ s < 2 ^ 64
-    small = omega (arith, div-mul-le-self i (2 ^ s))
-
-    same-unit : 2 ^ s ≡ unitOf v
-    same-unit = ap (λ (k : ℕ). 2 ^ k) e
-
-    pub mask-between : ((i / 2 ^ s * 2 ^ s) % 2 ^ 64 ≡ i → ⊥) → false ≡ maskBit v i
-    mask-between g =
-        let no : i % unitOf v ≡ 0 → ⊥ =
-        λ z. g (mod-eq-of-lt small ∙ omega (arith, div-add-mod' i (2 ^ s), ap (λ (u : ℕ). i % u) same-unit ∙ z)) in
-        sym (counting ∙ ap (λ (b : Bool). b && in-mask) (ne-eqb (i % unitOf v) 0 no))
-
-    module _ (g : (i / 2 ^ s * 2 ^ s) % 2 ^ 64 ≡ i) where
-      aligned : maskBit v i ≡ in-mask
-      aligned =
-          let z : i % 2 ^ s ≡ 0 = omega (arith, div-add-mod' i (2 ^ s), sym (mod-eq-of-lt small) ∙ g) in
-          counting ∙ ap (λ (b : Bool). b && in-mask) (eq-eqb (i % unitOf v) 0 (ap (λ (u : ℕ). i % u) (sym same-unit) ∙ z))
-
-      pub mask-below : v < 2 ^ 15 → ltb (i / 2 ^ s) n ≡ maskBit v i
-      unfolding in-mask
-      mask-below l =
-          ap₂ (λ (u c : ℕ). ltb (i / u) c) same-unit q
-          ∙ sym (ap (λ (b : Bool). cond b (ltb (i / unitOf v) (countIn v)) (leb (countIn v) (i / unitOf v))) (lt-ltb v (2 ^ 15) l))
-          ∙ sym aligned
-
-      pub mask-from : 2 ^ 15 ≤ v → leb n (i / 2 ^ s) ≡ maskBit v i
-      unfolding in-mask
-      mask-from l =
-          ap₂ (λ (u c : ℕ). leb c (i / u)) same-unit q
-          ∙ sym (ap (λ (b : Bool). cond b (ltb (i / unitOf v) (countIn v)) (leb (countIn v) (i / unitOf v))) (le-ltb v (2 ^ 15) l))
-          ∙ sym aligned
 
 pub lowest-below : (v : ℕ) → lowestSet v < 4
 unfolding lowestSet

@@ -5,3 +5,6 @@ pub mod Planning
 pub mod Listing
 pub mod Soundness
 pub mod Stretches
+pub mod Ranges
+pub mod Moving
+pub mod Joined

@@ -20,10 +20,12 @@ use Rattle.writes.specs.LittleEndian.{Bytes, leVal}
 use Rattle.writes.specs.Elements.{Element}
 use Rattle.writes.proofs.LittleEndian.{bytes-take, bytes-drop}
 use Rattle.elements.specs.Machine.{Machine, baseOf, indexOf, vector, predicate}
+use Rattle.elements.specs.Counter.{maskBit}
 use Rattle.elements.specs.Stores.{stepOf, sizeOf, perRegister, countOf, signed32, offsetOf, startOf}
 use Rattle.elements.specs.Elements.{activeAt, elementAt, actives, elements}
 use Rattle.elements.specs.Plans.{offsetFrom, vectorAddress, vectorActive, vectorElement, vectorElements, scatterPlan, quadwordPlan, stridedAddress, stridedActive, stridedElement, stridedElements, stridedPlan}
-use Rattle.elements.proofs.Shapes.{ScatterIn, QuadwordIn}
+use Rattle.elements.proofs.Shapes.{ScatterIn, QuadwordIn, StridedIn}
+use Rattle.elements.proofs.Ranges.{range-is}
 
 -- ---- one more element
 
@@ -59,6 +61,16 @@ actives-same on on′ el el′ f g zero e = refl
 actives-same on on′ el el′ f g (suc n) e =
     let t = actives-same on on′ el el′ f g n (suc e) in
     λ i. cond (f e i) (g e i ∷ t i) (t i)
+
+-- the same, where activity agrees below k
+pub actives-below : (on on′ : ℕ → Bool) (el el′ : ℕ → Element) (k : ℕ) → ((e : ℕ) → e < k → on e ≡ on′ e) → ((e : ℕ) → el e ≡ el′ e)
+    → (n e : ℕ) → e + n ≤ k → actives on el n e ≡ actives on′ el′ n e
+unfolding actives
+actives-below on on′ el el′ k f g zero e h = refl
+actives-below on on′ el el′ k f g (suc n) e h =
+    let t = actives-below on on′ el el′ k f g n (suc e) (omega arith) in
+    let u = f e (omega arith) in
+    λ i. cond (u i) (g e i ∷ t i) (t i)
 
 -- ---- offsets
 
@@ -158,10 +170,12 @@ module _ (m : Machine) (f : QuadwordFields) (s : QuadwordIn f (classFor (Quadwor
       ∙ actives-same (activeAt m (Quadword f)) (vectorActive v (predicate m (f .pg))) (elementAt m (Quadword f)) (vectorElement v (vector m (f .zn)) (vector m (f .zt)))
       quadword-active quadword-element (v .count) 0
 
-module _ (m : Machine) (f : StridedFields) where
-  pub strided-active : (e : ℕ) → activeAt m (Strided f) e ≡ stridedActive (stridedPlan m (classFor (Strided f)) f) e
+module _ (m : Machine) (f : StridedFields) (s : StridedIn f (classFor (Strided f))) where
+  pub strided-active : (e : ℕ) → e < countOf m (Strided f) → activeAt m (Strided f) e ≡ stridedActive (stridedPlan m (classFor (Strided f)) f) e
   unfolding activeAt stridedActive
-  strided-active e = refl
+  strided-active e h =
+      let v = leVal (take 2 (predicate m (8 + f .pc))) in
+      ap (λ (n : ℕ). maskBit v (e * n)) (s .step) ∙ sym (range-is v (countOf m (Strided f)) e h)
 
   wrapped : (a d : ℕ) → (a + d) % 2 ^ 64 ≡ (a % 2 ^ 64 + d) % 2 ^ 64
   wrapped a d = omega arith
@@ -176,6 +190,6 @@ module _ (m : Machine) (f : StridedFields) where
   unfolding elements stridedElements
   strided-elements =
       let c = classFor (Strided f) in
-      let s = stridedPlan m c f in
-      actives-same (activeAt m (Strided f)) (stridedActive s) (elementAt m (Strided f)) (stridedElement s (m .vb) (m .z))
-      strided-active strided-element (c .nreg * perRegister m c) 0
+      let p = stridedPlan m c f in
+      actives-below (activeAt m (Strided f)) (stridedActive p) (elementAt m (Strided f)) (stridedElement p (m .vb) (m .z))
+      (c .nreg * perRegister m c) strided-active strided-element (c .nreg * perRegister m c) 0 (omega arith)

@@ -20,9 +20,8 @@ use Rattle.encoding.specs.declared.StridedFields.{StridedFields}
 use Rattle.encoding.specs.declared.QuadwordFields.{QuadwordFields}
 use Rattle.writes.specs.LittleEndian.{leVal}
 use Rattle.elements.specs.Machine.{Machine, machine, baseOf, indexOf, register, predicate}
-use Rattle.elements.specs.Counter.{lowestSet, countIn}
 use Rattle.elements.specs.Stores.{stepOf, sizeOf, perRegister, startOf, strideOf}
-use Rattle.elements.specs.Plans.{scatterPlan, quadwordPlan, stridedPlan}
+use Rattle.elements.specs.Plans.{scatterPlan, quadwordPlan, stridedPlan, lowOf, highOf}
 use Rattle.elements.specs.declared.VectorPlan.{VectorPlan}
 use Rattle.elements.specs.declared.StridedPlan.{StridedPlan}
 
@@ -48,17 +47,19 @@ module _ (vb : ℕ) (x : List ℕ) (c : Class) (l : Layout) (e : l ≡ layoutOf 
   quadword-planned b f q =
       λ i. record { base = q i; extension = None; scale = 0; step = e i .step; size = e i .size; count = pers i; offsets = f .zn; governing = f .pg; stored = f .zt }
 
-  pub strided-planned : (sp a v s n d : ℕ) (p : List ℕ) (f : StridedFields)
+  pub strided-planned : (sp a v lo hi d : ℕ) (p : List ℕ) (f : StridedFields) → stepOf c ≡ 8
       → a ≡ startOf (machine vb x sp [] []) c (f .rn) (f .rm) (f .multiple) % 2 ^ 64
-      → v ≡ leVal (take 2 (register (vb / 8) p (8 + f .pc))) → s ≡ lowestSet v → n ≡ countIn v → d ≡ cond (eqb (l .nreg) 2) 8 4
+      → v ≡ leVal (take 2 (register (vb / 8) p (8 + f .pc))) → lo ≡ lowOf v (l .nreg * (vb / 8)) → hi ≡ highOf v (l .nreg * (vb / 8))
+      → d ≡ cond (eqb (l .nreg) 2) 8 4
       → _≡_ {A = StridedPlan}
-      (record { start = a; counter = v; shift = s; counted = n; step = l .step; size = l .size; per = vb / l .step; nreg = l .nreg; first = f .first; stride = d })
+      (record { start = a; low = lo; high = hi; step = l .step; size = l .size; per = vb / 8; nreg = l .nreg; first = f .first; stride = d })
       (stridedPlan (machine vb x sp [] p) c f)
-  strided-planned sp a v s n d p f qa qv qs qn qd =
-      let s′ = qs ∙ ap lowestSet qv in
-      let n′ = qn ∙ ap countIn qv in
+  strided-planned sp a v lo hi d p f o qa qv ql qh qd =
+      let r = ap (λ (n : ℕ). vb / n) (sym o) ∙ per-is vb c w in
+      let l′ = ql ∙ (λ i. lowOf (qv i) (e i .nreg * r i)) in
+      let h′ = qh ∙ (λ i. highOf (qv i) (e i .nreg * r i)) in
       let d′ = qd ∙ ap (λ (y : Layout). cond (eqb (y .nreg) 2) 8 4) e in
-      λ i. record { start = qa i; counter = qv i; shift = s′ i; counted = n′ i; step = e i .step; size = e i .size; per = pers i; nreg = e i .nreg; first = f .first; stride = d′ i }
+      λ i. record { start = qa i; low = l′ i; high = h′ i; step = e i .step; size = e i .size; per = r i; nreg = e i .nreg; first = f .first; stride = d′ i }
 
 -- ---- a strided store's first address
 

@@ -32,12 +32,13 @@ use Rattle.encoding.proofs.Signed.{multiple-imm, multiple-low, multiple-high}
 use Rattle.encoding.proofs.Statements.{accepted}
 use Rattle.elements.specs.Stores.{stepOf, sizeOf, strideOf}
 use Rattle.elements.specs.Plans.{offsetBytes}
+use Rattle.elements.proofs.Stretches.{doublewords}
 
 -- ---- the classes of a feature
 
 shapedAs : Feature → Class → Bool
 shapedAs SVE c = eqb (c .nreg) 1 && (leb 4 (stepOf c) && (has c xs || eqb (stepOf c) 8))
-shapedAs SME2 c = eqb (c .nreg * strideOf c) 16 && (leb (2 ^ width c (ztOf c)) (strideOf c) && leb 8 (stepOf c))
+shapedAs SME2 c = eqb (c .nreg * strideOf c) 16 && leb (2 ^ width c (ztOf c)) (strideOf c)
 shapedAs SVE2p1 c = eqb (c .nreg) 1 && eqb (stepOf c) 16
 
 shaped : Class → Bool
@@ -186,7 +187,8 @@ pub record StridedIn (f : StridedFields) (c : Class) : Type 0 where
   pub small : Small c
   pub nreg : 0 < c .nreg
   pub eight : c .esize / 8 * 8 ≡ c .esize
-  pub wide : 8 ≤ stepOf c
+  pub step : stepOf c ≡ 8
+  pub size : sizeOf c ≡ 8
   pub registers : c .nreg * strideOf c ≡ 16
   pub first : f .first / 16 < 2
   pub zt : f .first % 16 < strideOf c
@@ -210,8 +212,8 @@ strided-in f e =
     let q = multiple-imm (c .nreg) n (f .multiple) j in
     let t = shaped-as k (a .0) SME2 x in
     let z = ltb→lt (f .first % 16) (2 ^ width c (ztOf c)) (p .1) in
-    let t₁ = and-r (eqb (c .nreg * strideOf c) 16) (leb (2 ^ width c (ztOf c)) (strideOf c) && leb 8 (stepOf c)) t in
-    let u = leb→le (2 ^ width c (ztOf c)) (strideOf c) (and-l (leb (2 ^ width c (ztOf c)) (strideOf c)) (leb 8 (stepOf c)) t₁) in
+    let t₁ = and-r (eqb (c .nreg * strideOf c) 16) (leb (2 ^ width c (ztOf c)) (strideOf c)) t in
+    let u = leb→le (2 ^ width c (ztOf c)) (strideOf c) t₁ in
     record {
       row = a .0;
       rm = omega (arith, ltb→lt (f .rm) (2 ^ width c Rm) (and-l (ltb (f .rm) (2 ^ width c Rm)) _ r), width-small c Rm);
@@ -221,8 +223,9 @@ strided-in f e =
       small = b;
       nreg = s .nreg;
       eight = eights k (a .0);
-      registers = eqb→eq (c .nreg * strideOf c) 16 (and-l (eqb (c .nreg * strideOf c) 16) (leb (2 ^ width c (ztOf c)) (strideOf c) && leb 8 (stepOf c)) t);
-      wide = leb→le 8 (stepOf c) (and-r (leb (2 ^ width c (ztOf c)) (strideOf c)) (leb 8 (stepOf c)) t₁);
+      registers = eqb→eq (c .nreg * strideOf c) 16 (and-l (eqb (c .nreg * strideOf c) 16) (leb (2 ^ width c (ztOf c)) (strideOf c)) t);
+      step = doublewords k (a .0) x .0;
+      size = doublewords k (a .0) x .1;
       first = below-width c C.T (f .first / 16) 1 (p .0) (s .t);
       zt = omega arith;
     }

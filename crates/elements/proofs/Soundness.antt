@@ -3,6 +3,7 @@ use mathlib.Core.Path.{_≡_, refl, sym, ap, _∙_, subst}
 use Prim.Native.Nat.{ℕ, zero, suc, _+_, _-_, _*_, _/_, _%_, _≤_, _<_}
 use native.Mathlib.Nat.{div-mul-le-self, mul-div-mul-right, le-div-iff-mul-le, suc-mul}
 use native.Mathlib.Omega.{arith}
+use lib.ListN.{take}
 use Rattle.encoding.specs.Classes.{Class}
 use Rattle.encoding.specs.Encoding.{classFor}
 use Rattle.encoding.specs.declared.ScatterFields.{ScatterFields}
@@ -11,10 +12,9 @@ use Rattle.encoding.specs.declared.QuadwordFields.{QuadwordFields}
 use Rattle.encoding.specs.declared.Store.the-variants.{Scatter, Strided, Quadword}
 use Rattle.writes.specs.LittleEndian.{leVal}
 use Rattle.elements.specs.Machine.{Machine, predicate}
-use Rattle.elements.specs.Counter.{lowestSet, countIn}
 use Rattle.elements.specs.Stores.{stepOf, sizeOf, perRegister, strideOf}
 use Rattle.elements.specs.Plans.{VectorSound, StridedSound, scatterPlan, quadwordPlan, stridedPlan}
-use Rattle.elements.proofs.Leaves.{lowest-below}
+use Rattle.elements.proofs.Ranges.{range-order, range-most}
 use Rattle.elements.proofs.Shapes.{ScatterIn, QuadwordIn, StridedIn}
 
 module _ (m : Machine) (c : Class) (e : c .esize / 8 * 8 ≡ c .esize) where
@@ -67,10 +67,10 @@ module _ (m : Machine) (low : 16 ≤ m .vb) (high : m .vb ≤ 256) (sixteen : m 
   strided-sound f s =
       let c = classFor (Strided f) in
       record {
-        shift = refl;
-        counted = refl;
-        four = lowest-below _;
-        wide = s .wide;
+        order = range-order (leVal (take 2 (predicate m (8 + f .pc)))) (c .nreg * perRegister m c);
+        most = range-most (leVal (take 2 (predicate m (8 + f .pc)))) (c .nreg * perRegister m c);
+        packed = s .step ∙ sym (s .size);
+        wide = omega (arith, s .step);
         some = s .small .size .0;
         size = s .small .size .1;
         whole = per-whole m c (s .eight);

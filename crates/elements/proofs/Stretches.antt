@@ -46,7 +46,7 @@ module _ (u c : ℕ) (whole : (i : ℕ) → i * 8 % u ≡ 0) (more : (i j : ℕ)
       let b : suc i * 8 / u < c = leb-false c (suc i * 8 / u) (sym (marks-down (suc i)) ∙ k) in
       absurd (omega (arith, more i (suc i) (omega arith)))
 
-unit-whole : (v i : ℕ) → i * 8 % unitOf v ≡ 0
+pub unit-whole : (v i : ℕ) → i * 8 % unitOf v ≡ 0
 unfolding lowestSet
 unit-whole v i = go (eqb (v % 2) 1) (eqb (v % 4) 2) (eqb (v % 8) 4)
   where
@@ -74,11 +74,11 @@ counter-stretch v = marks-one (unitOf v) (countIn v) (unit-whole v) (unit-more v
 -- ---- the active ones among n elements
 
 module _ (on : ℕ → Bool) (el : ℕ → Element) where
-  actives-on : (n e : ℕ) → on e ≡ true → actives on el (suc n) e ≡ el e ∷ actives on el n (suc e)
+  pub actives-on : (n e : ℕ) → on e ≡ true → actives on el (suc n) e ≡ el e ∷ actives on el n (suc e)
   unfolding actives
   actives-on n e h = ap (λ (t : Bool). cond t (el e ∷ actives on el n (suc e)) (actives on el n (suc e))) h
 
-  actives-off : (n e : ℕ) → on e ≡ false → actives on el (suc n) e ≡ actives on el n (suc e)
+  pub actives-off : (n e : ℕ) → on e ≡ false → actives on el (suc n) e ≡ actives on el n (suc e)
   unfolding actives
   actives-off n e h = ap (λ (t : Bool). cond t (el e ∷ actives on el n (suc e)) (actives on el n (suc e))) h
 

@@ -1,8 +1,10 @@
 -- A store's numbers, decided once before its elements are walked. For the contracts of the code's own functions. Assumes nothing.
 use Prim.Native.Nat.{ℕ, _+_, _-_, _*_, _/_, _%_, _^_, _≤_, _<_}
-use mathlib.Core.Bool.{Bool, cond}
+use Prim.Native.Nat.{zero, suc}
+use mathlib.Core.Bool.{Bool, cond, _&&_}
 use mathlib.Core.Path.{_≡_}
-use mathlib.Core.List.{List, [], _∷_}
+use mathlib.Core.List.{List, [], _∷_, _++_}
+use lib.Dec.{eqb, ltb, leb}
 use lib.IntN.{ℤ, pos, _*ℤ_}
 use lib.ListN.{length, take, drop}
 use mir.Syntax.{w64}
@@ -16,7 +18,7 @@ use Rattle.encoding.specs.declared.QuadwordFields.{QuadwordFields}
 use Rattle.writes.specs.LittleEndian.{leVal}
 use Rattle.writes.specs.Elements.{Element}
 use Rattle.elements.specs.Machine.{Machine, baseOf, indexOf, register, predicate, bitAt}
-use Rattle.elements.specs.Counter.{lowestSet, countIn, maskBit}
+use Rattle.elements.specs.Counter.{unitOf, countIn}
 use Rattle.elements.specs.Stores.{stepOf, sizeOf, perRegister, signed32, strideOf, startOf}
 use Rattle.elements.specs.Elements.{actives}
 use Rattle.elements.specs.declared.VectorPlan.{VectorPlan}
@@ -35,8 +37,12 @@ offsetBytes None = 8
 offsetBytes Uxtw = 4
 offsetBytes Sxtw = 4
 
+-- the address by that offset
+abbrev pub addressFrom : ℕ → Extension → ℕ → List ℕ → ℕ → ℕ
+addressFrom base x scale offsets at = (base + offsetFrom x offsets at * 2 ^ scale) % 2 ^ 64
+
 unfoldable pub vectorAddress : VectorPlan → List ℕ → ℕ → ℕ
-vectorAddress v offsets e = (v .base + offsetFrom (v .extension) offsets (e * v .step) * 2 ^ v .scale) % 2 ^ 64
+vectorAddress v offsets e = addressFrom (v .base) (v .extension) (v .scale) offsets (e * v .step)
 
 unfoldable pub vectorActive : VectorPlan → List ℕ → ℕ → Bool
 vectorActive v governing e = bitAt governing (e * v .step)
@@ -72,13 +78,26 @@ quadwordPlan m c f =
       stored = f .zt;
     }
 
+-- ---- doublewords under a counter: those that are active are one stretch
+
+-- how many have their mask bit below the count
+unfoldable pub borderOf : ℕ → ℕ
+borderOf v = (countIn v * unitOf v + 7) / 8
+
+-- the first of n that is active, and the one behind the last; both are 0 where none is. `x - (x - y)` is the lower of two numbers.
+unfoldable pub lowOf : ℕ → ℕ → ℕ
+lowOf v n = cond (eqb (v % 16) 0) 0 (cond (ltb v (2 ^ 15)) 0 (borderOf v - (borderOf v - n)))
+
+unfoldable pub highOf : ℕ → ℕ → ℕ
+highOf v n = cond (eqb (v % 16) 0) 0 (cond (ltb v (2 ^ 15)) (borderOf v - (borderOf v - n)) n)
+
 -- ---- strided stores
 
 unfoldable pub stridedAddress : StridedPlan → ℕ → ℕ
 stridedAddress s e = (s .start + e * s .step) % 2 ^ 64
 
 unfoldable pub stridedActive : StridedPlan → ℕ → Bool
-stridedActive s e = maskBit (s .counter) (e * s .step)
+stridedActive s e = leb (s .low) e && ltb e (s .high)
 
 unfoldable pub stridedElement : StridedPlan → ℕ → List ℕ → ℕ → Element
 stridedElement s vb z e =
@@ -92,9 +111,8 @@ abbrev pub stridedPlan : Machine → Class → StridedFields → StridedPlan
 stridedPlan m c f =
     record {
       start = startOf m c (f .rn) (f .rm) (f .multiple) % 2 ^ 64;
-      counter = leVal (take 2 (predicate m (8 + f .pc)));
-      shift = lowestSet (leVal (take 2 (predicate m (8 + f .pc))));
-      counted = countIn (leVal (take 2 (predicate m (8 + f .pc))));
+      low = lowOf (leVal (take 2 (predicate m (8 + f .pc)))) (c .nreg * perRegister m c);
+      high = highOf (leVal (take 2 (predicate m (8 + f .pc)))) (c .nreg * perRegister m c);
       step = stepOf c;
       size = sizeOf c;
       per = perRegister m c;
@@ -111,6 +129,24 @@ vectorElements v offsets governing stored = actives (vectorActive v governing) (
 unfoldable pub stridedElements : StridedPlan → ℕ → List ℕ → List Element
 stridedElements s vb z = actives (stridedActive s) (stridedElement s vb z) (s .nreg * s .per) 0
 
+-- the bytes of n elements from number e on, one after the other
+unfoldable pub bytesFrom : (ℕ → Element) → ℕ → ℕ → List ℕ
+bytesFrom el zero e = []
+bytesFrom el (suc n) e = el e .bytes ++ bytesFrom el n (suc e)
+
+-- the bytes of a strided store's active elements
+unfoldable pub stridedBytes : StridedPlan → ℕ → List ℕ → List ℕ
+stridedBytes s vb z = bytesFrom (stridedElement s vb z) (s .high - s .low) (s .low)
+
+-- elements e up to `to` are active and of register r
+pub record PartOf (s : StridedPlan) (r e to : ℕ) : Type 0 where
+  pub row : r < s .nreg
+  pub from : r * s .per ≤ e
+  pub some : e < to
+  pub until : to ≤ r * s .per + s .per
+  pub low : s .low ≤ e
+  pub high : to ≤ s .high
+
 -- what holds of a plan on a machine with registers of vb bytes
 pub record VectorSound (v : VectorPlan) (vb : ℕ) : Type 0 where
   pub scale : v .scale < 64
@@ -126,9 +162,9 @@ pub record VectorSound (v : VectorPlan) (vb : ℕ) : Type 0 where
   pub stored : v .stored < 32
 
 pub record StridedSound (s : StridedPlan) (vb : ℕ) : Type 0 where
-  pub shift : s .shift ≡ lowestSet (s .counter)
-  pub counted : s .counted ≡ countIn (s .counter)
-  pub four : s .shift < 4
+  pub order : s .low ≤ s .high
+  pub most : s .high ≤ s .nreg * s .per
+  pub packed : s .step ≡ s .size
   pub wide : 8 ≤ s .step
   pub some : 0 < s .size
   pub size : s .size ≤ s .step

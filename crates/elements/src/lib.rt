@@ -2,7 +2,7 @@
 ghost use mathlib.Core.Path.{_≡_};
 ghost use mathlib.Core.Bool.{false, cond};
 ghost use mathlib.Core.List.{[]};
-ghost use Prim.Native.Nat.{_+_, _*_, _/_, _%_, _^_, _≤_, _<_};
+ghost use Prim.Native.Nat.{_+_, _-_, _*_, _/_, _%_, _^_, _≤_, _<_};
 ghost use lib.Dec.{eqb};
 ghost use lib.IntN.{pos, natAbs, _*ℤ_};
 ghost use lib.ListN.{length, getD};
@@ -13,7 +13,8 @@ ghost use Rattle.encoding.specs.Layouts.{layoutOf};
 ghost use Rattle.elements.specs.Machine.{machine, register, bitAt};
 ghost use Rattle.elements.specs.Counter.{lowestSet, countIn};
 ghost use Rattle.elements.specs.Stores.{signed32, startOf};
-ghost use Rattle.elements.specs.Plans.{offsetBytes, offsetFrom, vectorAddress, vectorActive, stridedAddress, stridedActive, scatterPlan, quadwordPlan, stridedPlan};
+ghost use Rattle.elements.specs.Plans.{offsetBytes, offsetFrom, addressFrom, vectorAddress, vectorActive, stridedAddress, stridedActive, stridedElement, scatterPlan, quadwordPlan, stridedPlan, borderOf, lowOf, highOf, bytesFrom, stridedBytes, PartOf, StridedSound};
+ghost use Rattle.writes.specs.Elements.{over};
 use encoding::Extension;
 use encoding::Layout;
 use encoding::QuadwordFields;
@@ -35,19 +36,30 @@ pub struct VectorPlan {
     pub stored: usize,
 }
 
-// A strided store: its first address, its counter with the place of its lowest set bit and its count, bytes from element to element,
-// bytes to move, elements a register, and its registers: the first, their number, and the distance from one to the next.
+// A strided store: its first address, its active elements, from `low` up to `high`, bytes from element to element, bytes to move,
+// elements a register, and its registers: the first, their number, and the distance from one to the next.
 pub struct StridedPlan {
     pub start: u64,
-    pub counter: u64,
-    pub shift: u32,
-    pub counted: u64,
+    pub low: usize,
+    pub high: usize,
     pub step: usize,
     pub size: usize,
     pub per: usize,
     pub nreg: usize,
     pub first: usize,
     pub stride: usize,
+}
+
+// The elements from `low` up to `high`.
+pub struct Range {
+    pub low: usize,
+    pub high: usize,
+}
+
+// Elements and bytes that were copied.
+pub struct Moved {
+    pub elements: u64,
+    pub bytes: u64,
 }
 
 // Bit i of a row of bytes.
@@ -112,6 +124,16 @@ fn offset(extension: Extension, reg: &[u8], at: usize) -> u64
     }
 }
 
+// The address of the element whose offset starts at byte `at` of its register.
+pub fn address_from(base: u64, extension: Extension, scale: u32, offsets: &[u8], at: usize) -> u64
+    requires { ⌜ at + offsetBytes extension ≤ length (now offsets) ⌝ }
+    requires { ⌜ scale < 64 ⌝ }
+    ensures { λ r. ⌜ r ≡ addressFrom base extension scale (now (offsets .entry)) at ⌝ }
+{
+    let o = offset(extension, offsets, at);
+    std::num::wrapping_add_u64(base, scaled(o, scale))
+}
+
 // The address of element e of a scatter or quadword store.
 pub fn vector_address(v: VectorPlan, offsets: &[u8], e: usize) -> u64
     requires { ⌜ e * v .step + offsetBytes (v .extension) ≤ length (now offsets) ⌝ }
@@ -119,8 +141,7 @@ pub fn vector_address(v: VectorPlan, offsets: &[u8], e: usize) -> u64
     ensures { λ r. ⌜ r ≡ vectorAddress v (now (offsets .entry)) e ⌝ }
 {
     let extension = v.extension;
-    let o = offset(extension, offsets, e * v.step);
-    std::num::wrapping_add_u64(v.base, scaled(o, v.scale))
+    address_from(v.base, extension, v.scale, offsets, e * v.step)
 }
 
 // Whether element e of a scatter or quadword store is active.
@@ -156,24 +177,45 @@ pub fn counted(v: u64, shift: u32) -> u64
     (v % 0x8000) >> (shift + 1)
 }
 
+// How many doublewords from the first on have a mask bit before the counter's count.
+fn border_of(v: u64) -> usize
+    ensures { λ r. ⌜ r ≡ borderOf v ⌝ }
+{
+    let shift = lowest_set(v);
+    ((scaled(counted(v, shift), shift) + 7) / 8) as usize
+}
+
+// The lower of two numbers.
+fn lower(x: usize, y: usize) -> usize
+    ensures { λ r. ⌜ r ≡ x - (x - y) ⌝ }
+{
+    if x < y {
+        return x;
+    }
+    y
+}
+
+// The active ones of n doublewords under the counter.
+fn range_of(v: u64, border: usize, n: usize) -> Range
+    requires { ⌜ border ≡ borderOf v ⌝ }
+    ensures { λ r. ⌜ (r .low ≡ lowOf v n) × (r .high ≡ highOf v n) ⌝ }
+{
+    if v % 16 == 0 {
+        return Range { low: 0, high: 0 };
+    }
+    if v < 0x8000 {
+        let high = lower(border, n);
+        return Range { low: 0, high };
+    }
+    let low = lower(border, n);
+    Range { low, high: n }
+}
+
 // Whether element e of a strided store is active.
 pub fn strided_active(s: StridedPlan, e: usize) -> bool
-    requires { ⌜ (s .shift ≡ lowestSet (s .counter)) × (s .counted ≡ countIn (s .counter)) ⌝ }
-    requires { ⌜ (e * s .step < 0x10000) × (s .shift < 4) ⌝ }
     ensures { λ r. ⌜ r ≡ stridedActive s e ⌝ }
 {
-    if s.counter % 16 == 0 {
-        return false;
-    }
-    let i = (e * s.step) as u64;
-    let k = i >> s.shift;
-    if k << s.shift != i {
-        return false;
-    }
-    if s.counter < 0x8000 {
-        return k < s.counted;
-    }
-    s.counted <= k
+    (s.low <= e) & (e < s.high)
 }
 
 // The address of element e of a strided store.
@@ -277,20 +319,67 @@ pub fn strided_plan(f: StridedFields, vb: usize, x: &[u64; 31], sp: u64, p: &[u8
     let layout = encoding::layout_for(f.class, 1);
     let start = start_of(f, layout, vb, x, sp);
     let counter = writes::le16(register_of(p, vb / 8, 8 + f.pc as usize), 0);
-    let shift = lowest_set(counter);
-    let counted = counted(counter, shift);
-    let step = layout.step as usize;
+    let border = border_of(counter);
+    let per = vb / 8;
+    let nreg = layout.nreg as usize;
+    let range = range_of(counter, border, nreg * per);
     let stride = stride_of(layout.nreg);
     StridedPlan {
         start,
-        counter,
-        shift,
-        counted,
-        step,
+        low: range.low,
+        high: range.high,
+        step: layout.step as usize,
         size: layout.size as usize,
-        per: vb / step,
-        nreg: layout.nreg as usize,
+        per,
+        nreg,
         first: f.first as usize,
         stride,
     }
+}
+
+// Copies elements e up to `to`, which are active and of register r, to their place among the active elements' bytes.
+fn copy_part(s: StridedPlan, vb: usize, z: &[u8], r: usize, e: usize, to: usize, out: &mut [u8])
+    requires { ⌜ StridedSound s vb ⌝ }
+    requires { ⌜ length (now z) ≡ 32 * vb ⌝ }
+    requires { ⌜ PartOf s r e to ⌝ }
+    requires { ⌜ length (now out) ≡ (s .high - s .low) * s .size ⌝ }
+    ensures { λ _. ⌜ now (out .exit) ≡ over (now (out .entry)) ((e - s .low) * s .size) (bytesFrom (stridedElement s vb (now (z .entry))) (to - e) e) ⌝ }
+{
+    let n = (to - e) * s.size;
+    let from = (e - r * s.per) * s.step;
+    let end = from + n;
+    let at = (e - s.low) * s.size;
+    let until = at + n;
+    let reg = register_of(z, vb, s.first + r * s.stride);
+    writes::copy(&mut out[at..until], &reg[from..end]);
+}
+
+// Copies the active elements' bytes, one register after the other, and counts them.
+pub fn copy_active(s: StridedPlan, vb: usize, z: &[u8], out: &mut [u8]) -> Moved
+    requires { ⌜ StridedSound s vb ⌝ }
+    requires { ⌜ length (now z) ≡ 32 * vb ⌝ }
+    requires { ⌜ length (now out) ≡ (s .high - s .low) * s .size ⌝ }
+    ensures { λ r. ⌜ r .elements ≡ s .high - s .low ⌝ }
+    ensures { λ r. ⌜ r .bytes ≡ (s .high - s .low) * s .size ⌝ }
+    ensures { λ _. ⌜ now (out .exit) ≡ stridedBytes s vb (now (z .entry)) ⌝ }
+{
+    let nreg = s.nreg;
+    let size = s.size;
+    let mut elements: u64 = 0;
+    let mut bytes: u64 = 0;
+    let mut e = s.low;
+    let mut r = 0;
+    while r < nreg {
+        let to = lower(s.high, (r + 1) * s.per);
+        if to <= e {
+            r += 1;
+            continue;
+        }
+        copy_part(s, vb, z, r, e, to, out);
+        elements += (to - e) as u64;
+        bytes += ((to - e) * size) as u64;
+        e = to;
+        r += 1;
+    }
+    Moved { elements, bytes }
 }

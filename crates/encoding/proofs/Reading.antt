@@ -23,7 +23,7 @@ use Rattle.encoding.specs.declared.Store.the-variants.{Scatter, Strided,
 use Rattle.encoding.specs.declared.Decoded.{Decoded}
 use Rattle.encoding.specs.declared.Decoded.the-variants.{Known, Undefined}
 use Rattle.encoding.proofs.Tests.{cond-true, cond-false}
-use Rattle.encoding.proofs.Rows.{flag-inj, number-at, digitsOf, packed, Small, scattered, striding, quad}
+use Rattle.encoding.proofs.Rows.{flag-inj, number-at, Small, scattered, striding, quad}
 
 -- ---- extensions
 
@@ -63,50 +63,9 @@ zt-whole c w = go (has c Zt3)
 
 -- ---- layouts
 
--- the digits of a class's number
-pub record Digits (p f n x r i z t b s : ℕ) : Type 0 where
-  pub feature : p / 0x1000000000000 % 16 ≡ f
-  pub nreg : p / 0x100000000000 % 16 ≡ n
-  pub xs : p / 0x10000000000 % 16 ≡ x
-  pub rm : p / 0x100000000 % 256 ≡ r
-  pub imm4 : p / 0x1000000 % 256 ≡ i
-  pub zt : p / 0x100000 % 16 ≡ z
-  pub step : p / 0x1000 % 256 ≡ t
-  pub size : p / 16 % 256 ≡ b
-  pub scale : p % 16 ≡ s
-
-digits-are : (f n x r i z t b s : ℕ) → f < 16 → n < 16 → x < 16 → r < 256 → i < 256 → z < 16 → t < 256 → b < 256 → s < 16
-    → Digits (digitsOf f n x r i z t b s) f n x r i z t b s
-digits-are f n x r i z t b s hf hn hx hr hi hz ht hb hs =
-    record {
-      feature = omega arith;
-      nreg = omega arith;
-      xs = omega arith;
-      rm = omega arith;
-      imm4 = omega arith;
-      zt = omega arith;
-      step = omega arith;
-      size = omega arith;
-      scale = omega arith;
-    }
-
-pub digits : (c : Class) → Small c
-    → Digits (packed c) (flag (c .feature)) (c .nreg) (2 ^ width c xs) (2 ^ width c Rm) (2 ^ width c imm4) (2 ^ width c (ztOf c)) (c .esize / 8) (c .msize / 8) (c .scale)
-digits c s =
-    digits-are (flag (c .feature)) (c .nreg) (2 ^ width c xs) (2 ^ width c Rm) (2 ^ width c imm4) (2 ^ width c (ztOf c)) (c .esize / 8) (c .msize / 8) (c .scale)
-    (omega (arith, s .feature)) (omega (arith, s .nreg)) (omega (arith, s .xs .1)) (omega (arith, s .rm .1)) (omega (arith, s .imm4 .1))
-    (omega (arith, s .zt .1)) (omega (arith, s .step .1)) (omega (arith, s .size .1, s .step .1)) (omega (arith, s .scale))
-
 pub layout-bounded : (c : Class) (l : Layout) → l ≡ layoutOf c → Small c → Bounded l
 layout-bounded c l e s =
     subst Bounded (sym e) (record { feature = s .feature; nreg = s .nreg; xs = s .xs; rm = s .rm; imm4 = s .imm4; zt = s .zt; step = s .step; size = s .size; scale = s .scale })
-
--- a class's flag, in its layout and out of it
-pub flag-of : (k : ℕ) (l : Layout) (x : ℕ) → l ≡ layoutOf (classAt k) → l .feature ≡ x → flag (classAt k .feature) ≡ x
-flag-of k l x e f = sym (ap (λ (y : Layout). y .feature) e) ∙ f
-
-pub of-flag : (k j : ℕ) (l : Layout) (x : ℕ) → j ≡ k → l ≡ layoutOf (classAt k) → flag (classAt j .feature) ≡ x → l .feature ≡ x
-of-flag k j l x q e f = ap (λ (y : Layout). y .feature) e ∙ ap (λ (i : ℕ). flag (classAt i .feature)) (sym q) ∙ f
 
 -- ---- stores
 
@@ -200,9 +159,9 @@ module _ (k w : ℕ) (h : k < length classes) where
 
 -- ---- decoding
 
--- a class's feature from its layout's
-pub featured : (k : ℕ) (l : Layout) (x : Feature) → l ≡ layoutOf (classAt k) → l .feature ≡ flag x → classAt k .feature ≡ x
-featured k l x e f = flag-inj (classAt k .feature) x (flag-of k l (flag x) e f)
+-- a class's feature by its flag
+pub featured : (k n : ℕ) (x : Feature) → n ≡ flag (classAt k .feature) → n ≡ flag x → classAt k .feature ≡ x
+featured k n x e f = flag-inj (classAt k .feature) x (sym e ∙ f)
 
 module _ (w k : ℕ) (e : k ≡ indexOf w) where
   pub undefined : length classes ≤ k → Undefined ≡ decodeOf w

@@ -2,7 +2,7 @@
 use mathlib.Core.Path.{_≡_, refl, sym, ap, _∙_, subst}
 use mathlib.Core.Bool.{Bool, true, false, not, cond, _&&_, _||_}
 use mathlib.Core.List.{List, [], _∷_, map}
-use Prim.Native.Nat.{ℕ, zero, suc, _+_, _*_, _/_, _^_, _≤_, _<_}
+use Prim.Native.Nat.{ℕ, zero, suc, _/_, _^_, _≤_, _<_}
 use native.Mathlib.Nat.{not-suc-le-zero, le-of-suc-le-suc}
 use native.Mathlib.Omega.{arith}
 use lib.Bits.{bitAnd}
@@ -14,6 +14,7 @@ use Rattle.encoding.specs.Classes as C
 use Rattle.encoding.specs.Classes.{Field, Zm, Rm, imm4, xs, Pg, Pc, Rn, Zn, Zt, low, Feature, SVE, SME2, SVE2p1, flag, Class, class, noClass, classes, classAt, position, any, everyBelow, bit, inside, belongs, maskBelow, maskOf, has, width}
 use Rattle.encoding.specs.Decoding.{ztOf, indexOf}
 use Rattle.encoding.specs.Encoding.{featureNumbered, rowOf}
+use Rattle.encoding.specs.Layouts.{digitAt, packedOf}
 use Rattle.encoding.proofs.Tests.{every, every-at, below-at, below-all, holds}
 use Rattle.encoding.proofs.Search.{position-none, position-only, position-holds}
 use Rattle.encoding.proofs.Places.{Place, row-right, Row, row, mask-member, member-mask}
@@ -101,7 +102,12 @@ pub row-none : (n x : ℕ) → ((k : ℕ) → k < length classes → suc k ≡ n
 unfolding rowOf classAt
 row-none n x f = position-none (named n x) noClass classes (λ k h t. let q = named-is n x k h t in f k h (q .0) (q .1))
 
--- the class found has the number, and the feature
+-- the class found has the number, and needs the flag
+pub row-number : (n x : ℕ) → rowOf n x < length classes → suc (rowOf n x) ≡ n
+unfolding rowOf classAt
+row-number n x h = named-is n x (rowOf n x) h (position-holds (named n x) noClass classes h) .0
+
+-- and the feature whose flag it is
 pub row-holds : (n : ℕ) (x : Feature) → rowOf n (flag x) < length classes
     → (suc (rowOf n (flag x)) ≡ n) × (classAt (rowOf n (flag x)) .feature ≡ x)
 unfolding rowOf classAt
@@ -155,14 +161,26 @@ passes k w h e = masked k h w (subst (λ (r : List ℕ). bitAnd w (getD r 0 0) �
 pub member : (k w : ℕ) → k < length classes → w < 2 ^ 32 → T (belongs (classAt k) w) → Passes k w
 member k w h l t = subst (λ (r : List ℕ). bitAnd w (getD r 0 0) ≡ getD r 1 0) (sym (column-at row-of [] k h)) (unmasked k h w l t)
 
--- a class in one number, by its hexadecimal digits
-abbrev pub digitsOf : ℕ → ℕ → ℕ → ℕ → ℕ → ℕ → ℕ → ℕ → ℕ → ℕ
-digitsOf f n x r i z t b s = s + 16 * (b + 256 * (t + 256 * (z + 16 * (i + 256 * (r + 256 * (x + 16 * (n + 16 * f)))))))
+-- the classes' flags are the digits of a number
+unfoldable pub flagsAre : ℕ → Bool
+flagsAre x = everyBelow (length classes) (λ k. eqb (digitAt x k) (flag (classAt k .feature)))
 
-abbrev pub packed : Class → ℕ
-packed c =
-    digitsOf (flag (c .feature)) (c .nreg) (2 ^ width c xs) (2 ^ width c Rm) (2 ^ width c imm4) (2 ^ width c (ztOf c)) (c .esize / 8) (c .msize / 8)
-    (c .scale)
+pub flag-at : (k : ℕ) → k < length classes → (x r : ℕ) → r ≡ digitAt x k → T (flagsAre x) → r ≡ flag (classAt k .feature)
+unfolding flagsAre
+flag-at k h x r e t =
+    e ∙ eqb→eq (digitAt x k) (flag (classAt k .feature)) (below-at (length classes) (λ i. eqb (digitAt x i) (flag (classAt i .feature))) t k h)
+
+-- what a digit of the classes' numbers stands for
+unfoldable pub digitsAre : (ℕ → ℕ) → (Class → ℕ) → ℕ → Bool
+digitsAre g f j = every (λ c. eqb (g (digitAt (packedOf c) j)) (f c)) classes
+
+pub digit-at : (k : ℕ) → k < length classes → (n : ℕ) → n ≡ packedOf (classAt k) → (g : ℕ → ℕ) (f : Class → ℕ) (j r : ℕ) → r ≡ g (digitAt n j)
+    → T (digitsAre g f j) → r ≡ f (classAt k)
+unfolding digitsAre classAt
+digit-at k h n q g f j r e t =
+    e
+    ∙ ap (λ (x : ℕ). g (digitAt x j)) q
+    ∙ eqb→eq (g (digitAt (packedOf (classAt k)) j)) (f (classAt k)) (every-at (λ c. eqb (g (digitAt (packedOf c) j)) (f c)) classes noClass t k h)
 
 -- ---- how large a class's numbers are, and which fields all classes of a feature have
 

@@ -1,7 +1,9 @@
 -- What the code keeps of a class, beside mask and base word. For the contracts of its own functions. Assumes nothing.
-use Prim.Native.Nat.{ℕ, _/_, _^_, _≤_, _<_}
+use Prim.Native.Nat.{ℕ, _+_, _*_, _/_, _%_, _^_, _≤_, _<_}
+use lib.Dec.{leb}
 use Rattle.encoding.specs.Classes.{Rm, imm4, xs, flag, Class, width}
 use Rattle.encoding.specs.Decoding.{ztOf}
+use Rattle.encoding.specs.Encoding.{lowest}
 use Rattle.encoding.specs.declared.Layout.{Layout}
 
 abbrev pub layoutOf : Class → Layout
@@ -17,6 +19,22 @@ layoutOf c =
       size = c .msize / 8;
       scale = c .scale;
     }
+
+-- hexadecimal digit k of a number, counted from the right
+abbrev pub digitAt : ℕ → ℕ → ℕ
+digitAt x k = x / 2 ^ (4 * k) % 16
+
+-- the power of 2 that a number up to 16 is
+abbrev pub exponent : ℕ → ℕ
+exponent n = lowest (λ v. leb n (2 ^ v)) 5
+
+-- nreg, the widths of four fields, esize/8 and msize/8 as powers of 2, and the scale, as digits
+unfoldable pub packedOf : Class → ℕ
+packedOf c =
+    c .scale
+    + 16 * (exponent (c .msize / 8)
+    + 16 * (exponent (c .esize / 8)
+    + 16 * (width c (ztOf c) + 16 * (width c imm4 + 16 * (width c Rm + 16 * (width c xs + 16 * c .nreg))))))
 
 -- how large its numbers are
 pub record Bounded (l : Layout) : Type 0 where

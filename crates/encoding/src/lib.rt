@@ -1,5 +1,5 @@
 // Words and decoded stores: which class of document 01 a word belongs to, what its fields say, and the way back.
-mod table;
+pub mod table;
 
 ghost use mathlib.Core.Path.{_≡_};
 ghost use mathlib.Core.Bool.{not, _&&_};
@@ -11,6 +11,7 @@ ghost use Rattle.encoding.specs.Encoding.{encodeOf, featureNumbered, imm
 ghost use Rattle.encoding.specs.Layouts.{layoutOf, Bounded};
 use table::CLASSES;
 use table::base_of;
+use table::feature_at;
 use table::index_of;
 use table::layout_of;
 use table::row_of;
@@ -111,7 +112,8 @@ fn extension_of(has: bool, xs: u32) -> Extension
     }
 }
 
-fn scatter(k: usize, word: u32) -> ScatterFields
+// The fields of a word of class k + 1, by the class's feature.
+pub fn scatter(k: usize, word: u32) -> ScatterFields
     requires { ⌜ (k < 12) × (classAt k .feature ≡ SVE) ⌝ }
     ensures { λ r. ⌜ Store.Scatter r ≡ storeOf (classAt k) word ⌝ }
 {
@@ -127,7 +129,7 @@ fn scatter(k: usize, word: u32) -> ScatterFields
     }
 }
 
-fn strided(k: usize, word: u32) -> StridedFields
+pub fn strided(k: usize, word: u32) -> StridedFields
     requires { ⌜ (k < 12) × (classAt k .feature ≡ SME2) ⌝ }
     ensures { λ r. ⌜ Store.Strided r ≡ storeOf (classAt k) word ⌝ }
 {
@@ -144,7 +146,7 @@ fn strided(k: usize, word: u32) -> StridedFields
     }
 }
 
-fn quadword(k: usize, word: u32) -> QuadwordFields
+pub fn quadword(k: usize, word: u32) -> QuadwordFields
     requires { ⌜ (k < 12) × (classAt k .feature ≡ SVE2p1) ⌝ }
     ensures { λ r. ⌜ Store.Quadword r ≡ storeOf (classAt k) word ⌝ }
 {
@@ -165,11 +167,11 @@ pub fn decode(word: u32) -> Decoded
     if CLASSES <= k {
         return Decoded::Undefined;
     }
-    let layout = layout_of(k);
-    if layout.feature == 0 {
+    let feature = feature_at(k);
+    if feature == 0 {
         return Decoded::Known(Store::Scatter(scatter(k, word)));
     }
-    if layout.feature == 1 {
+    if feature == 1 {
         return Decoded::Known(Store::Strided(strided(k, word)));
     }
     Decoded::Known(Store::Quadword(quadword(k, word)))
@@ -331,8 +333,7 @@ pub fn feature_of(class: u8) -> u32
     if CLASSES <= k {
         return 0;
     }
-    let layout = layout_of(k);
-    layout.feature
+    feature_at(k)
 }
 
 // The layout of the class of a store with this number, whose case is that of this feature.
@@ -341,5 +342,5 @@ pub fn layout_for(class: u8, feature: u32) -> Layout
     ensures is { λ r. ⌜ r ≡ layoutOf (classAt (rowOf class feature)) ⌝ }
     ensures bounded { λ r. ⌜ Bounded r ⌝ }
 {
-    layout_of(row_of(class, feature))
+    layout_of((class - 1) as usize)
 }

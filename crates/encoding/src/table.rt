@@ -1,10 +1,10 @@
 // The code's tables of the classes, and how a class is found in them.
 ghost use mathlib.Core.Path.{_≡_};
-ghost use Prim.Native.Nat.{_<_, _≤_};
-ghost use Rattle.encoding.specs.Classes.{classAt};
+ghost use Prim.Native.Nat.{_^_, _<_, _≤_};
+ghost use Rattle.encoding.specs.Classes.{classAt, flag};
 ghost use Rattle.encoding.specs.Decoding.{indexOf};
 ghost use Rattle.encoding.specs.Encoding.{rowOf};
-ghost use Rattle.encoding.specs.Layouts.{layoutOf, Bounded};
+ghost use Rattle.encoding.specs.Layouts.{layoutOf, digitAt, packedOf, Bounded};
 use super::Layout;
 
 pub const CLASSES: usize = 12;
@@ -25,23 +25,8 @@ const ROWS: [[u32; 2]; 12] = [
     [0xFFE0E000, 0xE4202000],
 ];
 
-// Each class as one number, by its hexadecimal digits: the flag that it needs, nreg, how many values its fields xs, Rm (two digits),
-// imm4 (two) and the strided Zt have, esize/8 (two), msize/8 (two), scale. One number a class, since a constant table is put on the
-// stack each time that it is read.
-const LAYOUTS: [u64; 12] = [
-    0x0_1_2_01_01_1_08_08_3,
-    0x0_1_2_01_01_1_08_08_0,
-    0x0_1_1_01_01_1_08_08_3,
-    0x0_1_1_01_01_1_08_08_0,
-    0x0_1_2_01_01_1_08_01_0,
-    0x0_1_2_01_01_1_04_01_0,
-    0x0_1_1_01_01_1_08_01_0,
-    0x1_2_1_20_01_8_08_08_3,
-    0x1_4_1_20_01_4_08_08_3,
-    0x1_2_1_01_10_8_08_08_0,
-    0x1_4_1_01_10_4_08_08_0,
-    0x2_1_1_20_01_1_10_10_0,
-];
+// The number of the flag that class k + 1 needs, as hexadecimal digit k from the right.
+const FEATURES: u64 = 0x2_1111_0000000;
 
 // The place in the table of the class that the word belongs to; CLASSES where it belongs to none.
 pub fn index_of(word: u32) -> usize
@@ -58,7 +43,7 @@ pub fn index_of(word: u32) -> usize
     CLASSES
 }
 
-pub fn base_of(k: usize) -> u32
+pub(crate) fn base_of(k: usize) -> u32
     requires { ⌜ k < 12 ⌝ }
     ensures is { λ r. ⌜ r ≡ classAt k .base ⌝ }
     ensures bounded { λ r. ⌜ r ≤ 0xF0000000 ⌝ }
@@ -67,36 +52,76 @@ pub fn base_of(k: usize) -> u32
     row[1]
 }
 
-pub fn layout_of(k: usize) -> Layout
+// Hexadecimal digit k of a number.
+fn digit(n: u64, k: usize) -> u32
+    requires { ⌜ k < 16 ⌝ }
+    ensures is { λ r. ⌜ r ≡ digitAt n k ⌝ }
+    ensures bounded { λ r. ⌜ r < 16 ⌝ }
+{
+    ((n >> (4 * k)) % 16) as u32
+}
+
+// 2 to the power of digit k.
+fn power(n: u64, k: usize) -> u32
+    requires { ⌜ k < 16 ⌝ }
+    ensures { λ r. ⌜ r ≡ 2 ^ digitAt n k ⌝ }
+{
+    1 << digit(n, k)
+}
+
+// The number of the flag that class k + 1 needs.
+pub fn feature_at(k: usize) -> u32
+    requires { ⌜ k < 12 ⌝ }
+    ensures is { λ r. ⌜ r ≡ flag (classAt k .feature) ⌝ }
+    ensures bounded { λ r. ⌜ r < 3 ⌝ }
+{
+    digit(FEATURES, k)
+}
+
+// What code needs of class k + 1 besides, by the hexadecimal digits of a number: nreg, how many bits its fields xs, Rm, imm4 and the
+// strided Zt have, esize/8 and msize/8 as powers of 2, the scale. A match, since a constant array is put on the stack each time that it
+// is read.
+fn packed(k: usize) -> u64
+    requires { ⌜ k < 12 ⌝ }
+    ensures { λ r. ⌜ r ≡ packedOf (classAt k) ⌝ }
+{
+    match k {
+        0 => 0x1_1_0_0_0_3_3_3,
+        1 => 0x1_1_0_0_0_3_3_0,
+        2 => 0x1_0_0_0_0_3_3_3,
+        3 => 0x1_0_0_0_0_3_3_0,
+        4 => 0x1_1_0_0_0_3_0_0,
+        5 => 0x1_1_0_0_0_2_0_0,
+        6 => 0x1_0_0_0_0_3_0_0,
+        7 => 0x2_0_5_0_3_3_3_3,
+        8 => 0x4_0_5_0_2_3_3_3,
+        9 => 0x2_0_0_4_3_3_3_0,
+        10 => 0x4_0_0_4_2_3_3_0,
+        _ => 0x1_0_5_0_0_4_4_0,
+    }
+}
+
+pub(crate) fn layout_of(k: usize) -> Layout
     requires { ⌜ k < 12 ⌝ }
     ensures is { λ r. ⌜ r ≡ layoutOf (classAt k) ⌝ }
     ensures bounded { λ r. ⌜ Bounded r ⌝ }
 {
-    let row = LAYOUTS[k];
-    let feature = (row / 0x1_0000_0000_0000 % 16) as u32;
-    let nreg = (row / 0x1000_0000_0000 % 16) as u32;
-    let xs = (row / 0x100_0000_0000 % 16) as u32;
-    let rm = (row / 0x1_0000_0000 % 256) as u32;
-    let imm4 = (row / 0x100_0000 % 256) as u32;
-    let zt = (row / 0x10_0000 % 16) as u32;
-    let step = (row / 0x1000 % 256) as u32;
-    let size = (row / 16 % 256) as u32;
-    let scale = (row % 16) as u32;
+    let n = packed(k);
     Layout {
-        feature,
-        nreg,
-        xs,
-        rm,
-        imm4,
-        zt,
-        step,
-        size,
-        scale,
+        feature: feature_at(k),
+        nreg: digit(n, 7),
+        xs: power(n, 6),
+        rm: power(n, 5),
+        imm4: power(n, 4),
+        zt: power(n, 3),
+        step: power(n, 2),
+        size: power(n, 1),
+        scale: digit(n, 0),
     }
 }
 
 // The place of the class with this number, if it needs this feature; CLASSES where there is none.
-pub fn row_of(class: u8, feature: u32) -> usize
+pub(crate) fn row_of(class: u8, feature: u32) -> usize
     ensures { λ r. ⌜ r ≡ rowOf class feature ⌝ }
 {
     if class == 0 {
@@ -106,10 +131,5 @@ pub fn row_of(class: u8, feature: u32) -> usize
     if CLASSES <= k {
         return CLASSES;
     }
-    let layout = layout_of(k);
-    if layout.feature == feature {
-        k
-    } else {
-        CLASSES
-    }
+    if feature_at(k) == feature { k } else { CLASSES }
 }

@@ -15,11 +15,13 @@ use Rattle.encoding.specs.declared.QuadwordFields.{QuadwordFields}
 use Rattle.encoding.specs.declared.Store.the-variants.{Scatter, Strided, Quadword}
 use Rattle.writes.specs.LittleEndian.{Bytes}
 use Rattle.writes.specs.Elements as W
+use Rattle.writes.proofs.Order.{two}
 use Rattle.elements.specs.Machine.{Machine, register}
+use Rattle.elements.specs.Stores.{countOf}
 use Rattle.elements.specs.Plans.{vectorActive, vectorAddress, vectorElement, stridedActive, stridedAddress, stridedElement, scatterPlan, quadwordPlan, stridedPlan}
 use Rattle.elements.specs.declared.VectorPlan.{VectorPlan}
 use Rattle.elements.specs.declared.StridedPlan.{StridedPlan}
-use Rattle.elements.proofs.Shapes.{ScatterIn, QuadwordIn}
+use Rattle.elements.proofs.Shapes.{ScatterIn, QuadwordIn, StridedIn}
 use Rattle.elements.proofs.Listing.{scatter-count, scatter-active, scatter-element, quadword-count, quadword-active, quadword-element, strided-active, strided-element}
 use Rattle.checks.specs.Verdicts.{lengthOk, registersOk}
 use Rattle.inspection.specs.Inspection.{counted, inspectedAt, inspectedFor, inspectedOf}
@@ -79,10 +81,15 @@ module _ (m : Machine) (e : ℕ) where
   quadword-inspected f s =
       sym (counted-same e _ _ (quadword-count m f s) (quadword-active m f s e) (ap (λ (y : W.Element). y .address) (quadword-element m f s e)))
 
-  pub strided-inspected : (f : StridedFields) → stridedInspected (stridedPlan m (classFor (Strided f)) f) (m .vb) e ≡ inspectedAt m (Strided f) e
+  pub strided-inspected : (f : StridedFields) → StridedIn f (classFor (Strided f))
+      → stridedInspected (stridedPlan m (classFor (Strided f)) f) (m .vb) e ≡ inspectedAt m (Strided f) e
   unfolding inspectedAt stridedInspected stridedElement
-  strided-inspected f =
-      sym (counted-same e _ _ refl (strided-active m f e) (ap (λ (y : W.Element). y .address) (strided-element m f e)))
+  strided-inspected f s =
+      let n = countOf m (Strided f) in
+      let a = ap (λ (y : W.Element). y .address) (strided-element m f s e) in
+      two e n
+      (λ h. sym (counted-same e _ _ refl (strided-active m f s e h) a))
+      (λ h. sym (past e n _ _ _ _ h) ∙ past e n _ _ _ _ h)
 
 -- ---- refusals in their order
 

@@ -8,7 +8,7 @@ use native.Mathlib.Omega.{arith}
 use lib.ListN.{length, getD}
 use borrow.Author.Tests.{lt-ltb, le-ltb}
 use Rattle.writes.proofs.Order.{two}
-use Rattle.intervals.specs.Intervals.{Interval, interval, Separate, Holds}
+use Rattle.composing.specs.Intervals.{Interval, interval, Separate, Holds}
 use Rattle.ordering.specs.Keys.{placeOf, numberOf, entries, filed, sorted, Each, Distinct}
 use Rattle.ordering.proofs.Sorting.{Up, filed-past, filed-here}
 use Rattle.composing.specs.Composing.{spot, total}

@@ -12,7 +12,7 @@ use Rattle.writes.specs.Encoding.{trailer}
 use Rattle.writes.specs.Elements.{over}
 use Rattle.writes.proofs.Order.{two, three}
 use Rattle.writes.proofs.Overlay.{length-over}
-use Rattle.intervals.specs.Intervals.{Interval, interval, Separate}
+use Rattle.composing.specs.Intervals.{Interval, interval, Separate}
 use Rattle.ordering.specs.Keys.{placeOf, numberOf, entries, Each, Distinct}
 use Rattle.ordering.proofs.Sorting.{entries-cons, entries-none, entries-all, length-entries, entry}
 use Rattle.composing.specs.Composing.{headBytes, heads, spot, total}

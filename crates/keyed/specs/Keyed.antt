@@ -5,7 +5,7 @@ use mathlib.Core.List.{List, [], _∷_}
 use mathlib.Core.Path.{_≡_}
 use lib.Dec.{ltb}
 use lib.ListN.{length, getD}
-use Rattle.intervals.specs.Intervals.{Interval, interval}
+use Rattle.composing.specs.Intervals.{Interval, interval}
 use Rattle.ordering.specs.Keys.{placeOf, numberOf, entries, Each, Distinct}
 use Rattle.composing.specs.Composing.{spot, total}
 

@@ -32,15 +32,15 @@ fn long(keys: &[u32], m: usize, size: u64, top: u64) -> usize
     let mut at: u64 = 0;
     let mut t = 0;
     while t < m {
-        let s = place(keys[t]);
-        if b < s {
+        let p = place(keys[t]);
+        if b < p {
             at = at + 12 + (b - a);
-            a = s;
-            b = s + size;
+            a = p;
+            b = p + size;
             t += 1;
             continue;
         }
-        b = s + size;
+        b = p + size;
         t += 1;
     }
     (at + 12 + (b - a)) as usize + 4

@@ -1,4 +1,4 @@
--- From the gathered intervals or keys to the patch. Assumes nothing.
+-- From the sorted keys to the patch. Assumes nothing.
 use mathlib.Core.Path.{_≡_, refl, sym, ap, ap₂, _∙_, subst}
 use mathlib.Core.Bool.{Bool, cond}
 use mathlib.Core.List.{List, [], _++_}
@@ -10,17 +10,14 @@ use borrow.Author.Tests.{lt-ltb, le-ltb}
 use Rattle.writes.specs.LittleEndian.{Bytes}
 use Rattle.writes.specs.Elements.{Element, netEffect}
 use Rattle.writes.specs.Encoding.{encode}
-use Rattle.intervals.specs.Intervals.{Interval, inserts, AllHeld, Fits}
-use Rattle.intervals.specs.Arrays.{intervalsAt}
-use Rattle.intervals.proofs.Inserting.{inserts-hold}
+use Rattle.composing.specs.Intervals.{Interval, Fits}
 use Rattle.ordering.specs.Keys.{placeOf, numberOf, entries, sorted, Each}
 use Rattle.composing.specs.Composing.{heads, spot, laid, total}
-use Rattle.composing.specs.Places.{Sized}
 use Rattle.composing.proofs.Covering.{Covers}
-use Rattle.composing.proofs.Made.{made, made-length, covered-made, covered-length}
+use Rattle.composing.proofs.Made.{covered-made, covered-length}
 use Rattle.keyed.specs.Keyed.{runsOf, Measured}
 use Rattle.making.specs.Making.{makingOf}
-use Rattle.making.specs.Steps.{Gathered, Composed, MadeOf, keysOf, Spotted}
+use Rattle.making.specs.Steps.{MadeOf, keysOf, Spotted}
 use Rattle.making.specs.declared.Making.{Making}
 use Rattle.making.specs.declared.Making.the-variants as M
 use Rattle.checks.specs.declared.Verdict.the-variants.{Done}
@@ -47,34 +44,6 @@ module _ (es : List Element) (r : ℕ) (long : length (encode (netEffect es)) �
             (le-ltb (length out) (length (encode (netEffect es))) (omega arith)));
         after = e;
       }
-
--- ---- from intervals
-
-module _ (W L : ℕ) (es : List Element) (top : W + L ≤ 2 ^ 64) (fits : Fits W L es) (A N P : List ℕ) (n r : ℕ) (g : Gathered W L es A N n)
-    (z : Sized A N P n r) where
-  long : length (encode (netEffect es)) ≡ r
-  long = made-length W L es top fits ∙ sym (z .size ∙ ap (λ (I : List Interval). total I + 4) (g .same))
-
-  pub no-room : (size : ℕ) (out : List ℕ) → length out < r → MadeOf es size out M.NoRoom out
-  no-room = short es r long
-
-  pub composed : (out : List ℕ) → r ≤ length out → Composed W L es A N P n out
-  composed out h =
-      record {
-        held = g .held;
-        placed = z .placed;
-        all = subst (λ (I : List Interval). AllHeld W I es) (sym (g .same)) (inserts-hold W [] es);
-        room = omega (arith, z .size);
-      }
-
-  pub made-of : (size k b : ℕ) (out out₁ out₂ : List ℕ) → Bytes out → r ≤ length out → out₁ ≡ heads W 0 0 (intervalsAt A N 0 n) out
-      → out₂ ≡ laid W (intervalsAt A N 0 n) out₁ es → k ≡ length es → b ≡ length es * size → MadeOf es size out (M.Done k b r) out₂
-  made-of size k b out out₁ out₂ bytes h p q i j =
-      whole es r long size k b out out₂ h
-      (q
-      ∙ ap₂ (λ (I : List Interval) (m : List ℕ). laid W I m es) (g .same)
-      (p ∙ ap (λ (I : List Interval). heads W 0 0 I out) (g .same))
-      ∙ made W L es out top fits bytes (omega (arith, z .size, ap (λ (I : List Interval). total I) (g .same)))) i j
 
 -- ---- from keys
 

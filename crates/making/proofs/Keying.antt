@@ -10,7 +10,7 @@ use Rattle.writes.specs.Sets.{ByteWrite, lookup}
 use Rattle.writes.specs.Elements.{Element, splice, spliceAll, netEffect}
 use Rattle.writes.proofs.Net.{lookup-splice}
 use Rattle.elements.specs.Elements.{actives}
-use Rattle.intervals.specs.Intervals.{Interval, Separate, Holds, AllHeld}
+use Rattle.composing.specs.Intervals.{Interval, Separate, Holds, AllHeld}
 use Rattle.ordering.specs.Keys.{placeOf, numberOf, entries, sorted, Each, Distinct}
 use Rattle.ordering.proofs.Sorting.{each-sorted, sorted-each, distinct-sorted, up-sorted}
 use Rattle.composing.specs.Composing.{spot, total}

@@ -1,8 +1,7 @@
 pub mod Finishing
 pub mod Fitting
-pub mod Gathering
-pub mod Laying
 pub mod Plans
+pub mod Single
 pub mod Outcomes
 pub mod Keying
 pub mod Collecting

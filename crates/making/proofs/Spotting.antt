@@ -9,7 +9,7 @@ use lib.ListN.{length, getD}
 use Rattle.writes.specs.Elements.{Element, over}
 use Rattle.elements.specs.Elements.{actives}
 use Rattle.elements.proofs.Listing.{active-more, inactive-more, active-none}
-use Rattle.intervals.specs.Intervals.{Interval}
+use Rattle.composing.specs.Intervals.{Interval}
 use Rattle.composing.specs.Composing.{spot, laid}
 use Rattle.making.specs.Steps.{Spotted}
 

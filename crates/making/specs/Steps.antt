@@ -6,10 +6,8 @@ use mathlib.Core.Path.{_≡_}
 use lib.ListN.{length, getD}
 use Rattle.writes.specs.Elements.{Element, netEffect}
 use Rattle.writes.specs.Encoding.{encode}
-use Rattle.intervals.specs.Intervals.{Interval, inserts, AllHeld}
-use Rattle.intervals.specs.Arrays.{intervalsAt, Held}
-use Rattle.composing.specs.Composing.{spot, total}
-use Rattle.composing.specs.Places.{Placed}
+use Rattle.composing.specs.Intervals.{Interval}
+use Rattle.composing.specs.Composing.{spot}
 use Rattle.checks.specs.declared.Verdict.the-variants.{Done}
 use Rattle.making.specs.Making.{makingOf, bufferAfter}
 use Rattle.making.specs.declared.Making.{Making}
@@ -28,18 +26,6 @@ abbrev pub Spotted : List ℕ → ℕ → List Interval → ℕ → List Element
 Spotted S W I r [] = Unit {0}
 Spotted S W I r (x ∷ xs) =
     (getD S (x .number) 0 ≡ spot (x .address - W) I) × (spot (x .address - W) I + length (x .bytes) ≤ r) × Spotted S W I r xs
-
--- the first n entries of two arrays are the intervals of the elements' places
-pub record Gathered (W L : ℕ) (es : List Element) (starts lengths : List ℕ) (n : ℕ) : Type 0 where
-  pub held : Held starts lengths n L
-  pub same : intervalsAt starts lengths 0 n ≡ inserts W [] es
-
--- the buffer has room for the patch, and each element an interval
-pub record Composed (W L : ℕ) (es : List Element) (starts lengths places : List ℕ) (n : ℕ) (out : List ℕ) : Type 0 where
-  pub held : Held starts lengths n L
-  pub placed : Placed starts lengths places n
-  pub all : AllHeld W (intervalsAt starts lengths 0 n) es
-  pub room : total (intervalsAt starts lengths 0 n) + 4 ≤ length out
 
 -- making the patch of these elements, of `size` bytes each, answers r and leaves the buffer
 pub record MadeOf (es : List Element) (size : ℕ) (buffer : List ℕ) (r : Making) (buffer′ : List ℕ) : Type 0 where

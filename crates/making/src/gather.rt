@@ -1,12 +1,11 @@
-// The places that a store's active elements write, as keys or as intervals in lent arrays. Data isn't looked at.
+// The places that the active elements of a scatter or quadword store write, as keys. Data isn't looked at.
 ghost use mathlib.Core.Path.{_≡_};
 ghost use mathlib.Core.List.{List};
 ghost use Prim.Native.Nat.{ℕ, _+_, _*_, _/_, _≤_, _<_};
 ghost use lib.ListN.{length};
-ghost use Rattle.elements.specs.Plans.{VectorSound, vectorActive, vectorAddress, vectorElements, StridedSound, stridedActive, stridedAddress, stridedElements};
+ghost use Rattle.elements.specs.Plans.{VectorSound, vectorActive, vectorAddress, vectorElements};
 ghost use Rattle.ordering.specs.Keys.{entries};
-ghost use Rattle.making.specs.Steps.{EachInside, Gathered, keysOf};
-use elements::StridedPlan;
+ghost use Rattle.making.specs.Steps.{EachInside, keysOf};
 use elements::VectorPlan;
 
 // A place in the window and an element's number as one number.
@@ -17,7 +16,7 @@ fn key(place: u64, e: usize) -> u32
     (place * 256) as u32 + e as u32
 }
 
-// Of a scatter or quadword store: the key of each active element. Answers how many there are.
+// The key of each active element. Answers how many there are.
 pub fn gather_vector(
     v: VectorPlan,
     vb: usize,
@@ -45,36 +44,6 @@ pub fn gather_vector(
         let k = key(elements::vector_address(v, offsets, e) - base, e);
         keys[n] = k;
         n += 1;
-        e += 1;
-    }
-    n
-}
-
-// Of a strided store.
-pub fn gather_strided(
-    s: StridedPlan,
-    vb: usize,
-    base: u64,
-    room: u64,
-    starts: &mut [u64],
-    lens: &mut [u64],
-) -> usize
-    requires { ⌜ StridedSound s vb ⌝ }
-    requires { ⌜ (s .nreg * s .per ≤ length (now starts)) × (s .nreg * s .per ≤ length (now lens)) × (room ≤ 65536) ⌝ }
-    requires { ⌜ EachInside (stridedActive s) (stridedAddress s) (s .size) (s .nreg * s .per) base room ⌝ }
-    ensures { λ r. ⌜ ((z : List ℕ) → length z ≡ 32 * vb → Gathered base room (stridedElements s vb z) (now (starts .exit)) (now (lens .exit)) r) ⌝ }
-{
-    let count = s.nreg * s.per;
-    let size = s.size as u64;
-    let mut n: usize = 0;
-    let mut e: usize = 0;
-    while e < count {
-        if !elements::strided_active(s, e) {
-            e += 1;
-            continue;
-        }
-        let at = elements::strided_address(s, e) - base;
-        n = intervals::take_in(starts, lens, n, room, at, size);
         e += 1;
     }
     n

@@ -4,7 +4,8 @@ mod lay;
 
 ghost use mathlib.Core.Path.{_≡_};
 ghost use mathlib.Core.Bool.{true};
-ghost use Prim.Native.Nat.{_*_};
+ghost use mathlib.Core.List.{[]};
+ghost use Prim.Native.Nat.{ℕ, _*_};
 ghost use lib.ListN.{length};
 ghost use Rattle.writes.specs.Elements.{InWindow};
 ghost use Rattle.writes.specs.Window.{windowOk};
@@ -18,9 +19,7 @@ use checks::Flags;
 use checks::Verdict;
 use elements::StridedPlan;
 use elements::VectorPlan;
-use gather::gather_strided;
 use gather::gather_vector;
-use lay::lay_strided;
 use lay::lay_vector;
 
 // What making a patch answers: document 01's verdicts 0 to 8.
@@ -82,7 +81,22 @@ fn make_vector(
     }
 }
 
-// The patch of a strided store that is done: it has at most 128 elements.
+// The patch of a store with nothing active.
+fn make_empty(patch: &mut [u8]) -> Making
+    ensures { λ r. ⌜ ((size : ℕ) → MadeOf [] size (now (patch .entry)) r (now (patch .exit))) ⌝ }
+{
+    if patch.len() < 4 {
+        return Making::NoRoom;
+    }
+    composing::put_trailer(patch, 0, 0);
+    Making::Done {
+        elements: 0,
+        bytes: 0,
+        length: 4,
+    }
+}
+
+// The patch of a strided store that is done: it has at most one run.
 fn make_strided(
     s: StridedPlan,
     vb: usize,
@@ -96,19 +110,25 @@ fn make_strided(
     requires { ⌜ (windowOk base room ≡ true) × InWindow base room (stridedElements s vb (now z)) ⌝ }
     ensures { λ r. ⌜ MadeOf (stridedElements s vb (now (z .entry))) (s .size) (now (patch .entry)) r (now (patch .exit)) ⌝ }
 {
-    let mut starts = [0u64; 128];
-    let mut lens = [0u64; 128];
-    let n = gather_strided(s, vb, base, room, &mut starts, &mut lens);
-    let mut places = [0u64; 128];
-    let length = composing::size_up(&starts, &lens, n, room, &mut places);
+    let low = s.low;
+    let high = s.high;
+    if high <= low {
+        return make_empty(patch);
+    }
+    let bytes = (high - low) * s.size;
+    let length = bytes + 16;
     if patch.len() < length {
         return Making::NoRoom;
     }
-    composing::put_heads(base, &starts, &lens, n, room, patch);
-    let counts = lay_strided(s, vb, z, base, room, &starts, &lens, &places, n, patch);
+    let start = elements::strided_address(s, low);
+    composing::put_head(patch, 0, start, bytes as u64);
+    let at = 12;
+    let to = at + bytes;
+    let moved = elements::copy_active(s, vb, z, &mut patch[at..to]);
+    composing::put_trailer(patch, to, 1);
     Making::Done {
-        elements: counts.elements,
-        bytes: counts.bytes,
+        elements: moved.elements,
+        bytes: moved.bytes,
         length: length as u64,
     }
 }

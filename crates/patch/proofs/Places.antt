@@ -16,11 +16,11 @@ use Rattle.writes.proofs.Order.{absurdly}
 use Rattle.writes.proofs.Overlay.{overlay-nil, overlay-run, overlay-runs, length-over}
 use Rattle.writes.specs.Window.{inWindow}
 use Rattle.patch.specs.Applying.{lowestOutside}
-use Rattle.patch.specs.Placing.{runsRead, setOf, surveyed, RunsOf, AllInside}
+use Rattle.patch.specs.Placing.{runsRead, setOf, surveyed, lastOf, RunsOf, RunsTo, AllInside}
 use Rattle.patch.specs.declared.placing.Survey.{Survey}
 use Rattle.patch.specs.declared.placing.Survey.the-variants.{Inside, Beyond}
 use Rattle.patch.proofs.Steps.{RunAt, run-of, payload-at, after-at}
-use Rattle.writes.proofs.Windows.{in-window-inv}
+use Rattle.writes.proofs.Windows.{in-window, in-window-inv}
 
 -- ---- the runs that are left, k of n behind
 
@@ -149,6 +149,43 @@ one-fewer W L s n at left h g v = let w : n - left + 1 ≡ n - (left - 1) = omeg
 pub surveying-done : (W L : ℕ) (s : List ℕ) (n at k : ℕ) → Surveying W L s n at k → n ≤ k → Inside ≡ surveyed W L s
 unfolding lowestOutside
 surveying-done W L s n at k v h = sym (v .same ∙ ap (lowestOutside W L k) (none-left s n at k (v .todo) (v .left) h))
+
+-- ---- the window spans the runs: runs ascend
+
+last-least : (l f : ℕ) (rs : List Run) → Apart f rs → l < f → l ≤ lastOf l rs
+unfolding lastOf
+last-least l f [] g h = omega arith
+last-least l f (run s p ∷ rs) g h =
+    let a : f ≤ s = g .0 in
+    let one : 1 ≤ length p = g .1 in
+    let i = last-least (s + (length p - 1)) (s + length p + 1) rs (g .4) (omega arith) in
+    omega arith
+
+span-inside : (W L k l f : ℕ) (rs : List Run) → Apart f rs → W ≤ f → lastOf l rs + 1 ≤ W + L → lowestOutside W L k rs ≡ Inside
+unfolding lowestOutside lastOf
+span-inside W L k l f [] g h e = refl
+span-inside W L k l f (run s p ∷ rs) g h e =
+    let a : f ≤ s = g .0 in
+    let one : 1 ≤ length p = g .1 in
+    let i = last-least (s + (length p - 1)) (s + length p + 1) rs (g .4) (omega arith) in
+    ap (λ (b : Bool). cond b (lowestOutside W L (suc k) rs) (Beyond k s)) (in-window W L s (length p) (omega arith) (omega arith))
+    ∙ span-inside W L (suc k) (s + (length p - 1)) (s + length p + 1) rs (g .4) (omega arith) e
+
+pub spanned-none : (W L : ℕ) (s : List ℕ) (n l : ℕ) → RunsTo s n l → n ≡ 0 → surveyed W L s ≡ Inside
+unfolding surveyed lowestOutside
+spanned-none W L s n l r e = ap (lowestOutside W L 0) (none-left s n 0 0 (runsRead s) (left-first s n (r .runs)) (omega arith))
+
+pub spanned-all : (W L : ℕ) (s : List ℕ) (n l st : ℕ) → RunsTo s n l → (n ≡ 0 → ⊥) → st ≡ leVal (take 8 (drop 2 s)) → W ≤ st
+    → inWindow W L l 1 ≡ true → surveyed W L s ≡ Inside
+unfolding surveyed
+spanned-all W L s n l st r z es h t =
+    more s n 0 0 (runsRead s) (left-first s n (r .runs)) (omega arith) (λ st′ p ts v e.
+    let x = left-here s n 0 0 st′ p ts v in
+    let i = in-window-inv W L l 1 t in
+    let g = v .apart in
+    let w : st ≡ st′ = es ∙ x .start in
+    let q : lastOf 0 (run st′ p ∷ ts) ≡ l = ap (lastOf 0) (sym e) ∙ r .last in
+    ap (lowestOutside W L 0) e ∙ span-inside W L 0 0 st′ (run st′ p ∷ ts) (omega arith, g .1, g .2, g .3, g .4) (omega arith) (omega (arith, i .1)))
 
 -- ---- all put into the window
 

@@ -1,6 +1,6 @@
 -- Writing a list of active elements by number: what a loop has written. Over any activity and any element. Assumes nothing.
 use mathlib.Core.Path.{_≡_, refl, sym, ap, _∙_, subst}
-use mathlib.Core.Bool.{Bool, true, false}
+use mathlib.Core.Bool.{Bool, true, false, cond}
 use mathlib.Core.List.{List}
 use Prim.Native.Nat.{ℕ, _+_, _-_, _*_, _≤_, _<_}
 use native.Mathlib.Nat.{sub-zero}
@@ -69,6 +69,17 @@ module _ (on : ℕ → Bool) (el : ℕ → Element) (n : ℕ) where
             total = omega (arith, ap length q, s .total);
           }
 
+      -- both in one: d more elements, 1 or 0
+      pub stored-next : (d : ℕ) → d ≡ cond (on e) 1 0 → (m′ : List ℕ) → m′ ≡ cond (on e) (over m (el e .address - W) (el e .bytes)) m
+          → Stored W m₀ m′ (k + d) (e + 1)
+      stored-next d q m′ r = go (on e) refl q r
+        where
+          go : (b : Bool) → on e ≡ b → d ≡ cond b 1 0 → m′ ≡ cond b (over m (el e .address - W) (el e .bytes)) m → Stored W m₀ m′ (k + d) (e + 1)
+          go true t p o = let j : k + 1 ≡ k + d = omega arith in subst (λ (i : ℕ). Stored W m₀ m′ i (e + 1)) j (stored-on t m′ o)
+          go false t p o =
+              let j : k ≡ k + d = omega arith in
+              subst (λ (i : ℕ). Stored W m₀ m′ i (e + 1)) j (subst (λ (l : List ℕ). Stored W m₀ l k (e + 1)) (sym o) (stored-off t))
+
     pub stored-done : (m : List ℕ) (k e : ℕ) → n ≤ e → Stored W m₀ m k e
         → (k ≡ length (actives on el n 0)) × (m ≡ written W m₀ (actives on el n 0))
     unfolding written
@@ -77,3 +88,10 @@ module _ (on : ℕ → Bool) (el : ℕ → Element) (n : ℕ) where
         (omega (arith, ap length q, s .total), ap (written W m) (sym q) ∙ s .same)
 
 -- ---- sums in the loops
+
+pub at-most-one : (b : Bool) (d : ℕ) → d ≡ cond b 1 0 → d ≤ 1
+at-most-one true d q = omega arith
+at-most-one false d q = omega arith
+
+pub bytes-more : (k d s n b : ℕ) → n ≡ s → b ≡ k * s → b + d * n ≡ (k + d) * s
+bytes-more k d s n b p q = ap (λ (j : ℕ). b + d * j) p ∙ omega arith

@@ -3,9 +3,11 @@ mod strided;
 mod vectors;
 
 ghost use mathlib.Core.Path.{_≡_};
+ghost use mathlib.Core.Bool.{true};
 ghost use Prim.Native.Nat.{_*_};
 ghost use lib.ListN.{length};
 ghost use Rattle.writes.specs.Elements.{InWindow, written};
+ghost use Rattle.writes.specs.Window.{windowOk};
 ghost use Rattle.elements.specs.Machine.{machine};
 ghost use Rattle.elements.specs.Plans.{VectorSound, StridedSound, stridedElements};
 ghost use Rattle.checks.specs.Steps.{Sound, vectorsIn};
@@ -40,7 +42,7 @@ fn run_vector(v: VectorPlan, vb: usize, z: &[u8], p: &[u8], base: u64, memory: &
 fn run_strided(s: StridedPlan, vb: usize, z: &[u8], base: u64, memory: &mut [u8]) -> Verdict
     requires { ⌜ StridedSound s vb ⌝ }
     requires { ⌜ length (now z) ≡ 32 * vb ⌝ }
-    requires { ⌜ InWindow base (length (now memory)) (stridedElements s vb (now z)) ⌝ }
+    requires { ⌜ (windowOk base (length (now memory)) ≡ true) × InWindow base (length (now memory)) (stridedElements s vb (now z)) ⌝ }
     ensures { λ r. ⌜ r ≡ Verdict.Done (length (stridedElements s vb (now (z .entry)))) (length (stridedElements s vb (now (z .entry))) * s .size) ⌝ }
     ensures { λ _. ⌜ now (memory .exit) ≡ written base (now (memory .entry)) (stridedElements s vb (now (z .entry))) ⌝ }
 {

@@ -14,7 +14,6 @@ ghost use Rattle.patch.specs.Judging.{judged};
 ghost use Rattle.codec.specs.Codec.{encodeGiven, encodedAnswers};
 ghost use Rattle.starshackle.specs.Patches.{AppliedAs, MadeAs};
 ghost use Rattle.starshackle.specs.Running.{flagsOf, RanAs};
-use encoding::Decoded;
 use encoding::Encoded;
 use patch::Applied;
 use patch::Judged;
@@ -28,16 +27,13 @@ pub extern "C" fn starshackle_decode(word: u32, fields: &mut [u64; 8]) -> u64
     ensures number { λ r. ⌜ r ≡ decodedNumber (decodeOf word) ⌝ }
     ensures numbers { λ _. ⌜ now (fields .exit) ≡ decodedNumbers (decodeOf word) ⌝ }
 {
-    match encoding::decode(word) {
-        Decoded::Known(store) => {
-            *fields = codec::numbers_of(store);
-            0
-        }
-        Decoded::Undefined => {
-            *fields = [0; 8];
-            4
-        }
+    let k = encoding::table::index_of(word);
+    if encoding::table::CLASSES <= k {
+        *fields = [0; 8];
+        return 4;
     }
+    *fields = codec::numbers_at(k, word);
+    0
 }
 
 // The word that eight numbers give: 0 and the word in the last answer, or 11; the other answers are 0.

@@ -1,6 +1,7 @@
 // Little-endian numbers in lent bytes, bytes copied, and the window's tests. The crate's laws of byte writes stand in proofs/.
 ghost use mathlib.Core.Path.{_≡_};
-ghost use Prim.Native.Nat.{_+_, _-_, _^_, _≤_, _<_};
+ghost use mathlib.Core.Bool.{true, not};
+ghost use Prim.Native.Nat.{ℕ, _+_, _-_, _^_, _≤_, _<_};
 ghost use lib.ListN.{length, take, drop};
 ghost use lib.Seq.{paste};
 ghost use Rattle.writes.specs.LittleEndian.{leVal};
@@ -45,7 +46,33 @@ pub fn le64(s: &[u8], at: usize) -> u64
     low + 0x1_0000_0000 * high
 }
 
-// Eight bytes at index i: all loads before the stores.
+// Two bytes at index i: all loads before the stores, so that they become one move of each.
+fn copy2(dst: &mut [u8], src: &[u8], i: usize)
+    requires { ⌜ (i + 2 ≤ length (now dst)) × (i + 2 ≤ length (now src)) ⌝ }
+    ensures { λ _. ⌜ now (dst .exit) ≡ paste (now (dst .entry)) i (drop i (now (src .entry))) 2 ⌝ }
+{
+    let b0 = src[i];
+    let b1 = src[i + 1];
+    dst[i] = b0;
+    dst[i + 1] = b1;
+}
+
+// Four bytes at index i.
+fn copy4(dst: &mut [u8], src: &[u8], i: usize)
+    requires { ⌜ (i + 4 ≤ length (now dst)) × (i + 4 ≤ length (now src)) ⌝ }
+    ensures { λ _. ⌜ now (dst .exit) ≡ paste (now (dst .entry)) i (drop i (now (src .entry))) 4 ⌝ }
+{
+    let b0 = src[i];
+    let b1 = src[i + 1];
+    let b2 = src[i + 2];
+    let b3 = src[i + 3];
+    dst[i] = b0;
+    dst[i + 1] = b1;
+    dst[i + 2] = b2;
+    dst[i + 3] = b3;
+}
+
+// Eight bytes at index i.
 fn copy8(dst: &mut [u8], src: &[u8], i: usize)
     requires { ⌜ (i + 8 ≤ length (now dst)) × (i + 8 ≤ length (now src)) ⌝ }
     ensures { λ _. ⌜ now (dst .exit) ≡ paste (now (dst .entry)) i (drop i (now (src .entry))) 8 ⌝ }
@@ -68,31 +95,109 @@ fn copy8(dst: &mut [u8], src: &[u8], i: usize)
     dst[i + 7] = b7;
 }
 
-// The bytes from index `done` on.
-fn copy_rest(dst: &mut [u8], src: &[u8], done: usize)
-    requires { ⌜ (done ≤ length (now dst)) × (length (now src) ≡ length (now dst)) ⌝ }
-    ensures { λ _. ⌜ now (dst .exit) ≡ paste (now (dst .entry)) done (drop done (now (src .entry))) (length (now (src .entry)) - done) ⌝ }
+// Sixteen bytes at index i.
+fn copy16(dst: &mut [u8], src: &[u8], i: usize)
+    requires { ⌜ (i + 16 ≤ length (now dst)) × (i + 16 ≤ length (now src)) ⌝ }
+    ensures { λ _. ⌜ now (dst .exit) ≡ paste (now (dst .entry)) i (drop i (now (src .entry))) 16 ⌝ }
+{
+    let b0 = src[i];
+    let b1 = src[i + 1];
+    let b2 = src[i + 2];
+    let b3 = src[i + 3];
+    let b4 = src[i + 4];
+    let b5 = src[i + 5];
+    let b6 = src[i + 6];
+    let b7 = src[i + 7];
+    let b8 = src[i + 8];
+    let b9 = src[i + 9];
+    let b10 = src[i + 10];
+    let b11 = src[i + 11];
+    let b12 = src[i + 12];
+    let b13 = src[i + 13];
+    let b14 = src[i + 14];
+    let b15 = src[i + 15];
+    dst[i] = b0;
+    dst[i + 1] = b1;
+    dst[i + 2] = b2;
+    dst[i + 3] = b3;
+    dst[i + 4] = b4;
+    dst[i + 5] = b5;
+    dst[i + 6] = b6;
+    dst[i + 7] = b7;
+    dst[i + 8] = b8;
+    dst[i + 9] = b9;
+    dst[i + 10] = b10;
+    dst[i + 11] = b11;
+    dst[i + 12] = b12;
+    dst[i + 13] = b13;
+    dst[i + 14] = b14;
+    dst[i + 15] = b15;
+}
+
+// Sixteen bytes or more: sixteen at a time, and the last sixteen, which may overlap those.
+fn copy_long(dst: &mut [u8], src: &[u8])
+    requires { ⌜ (16 ≤ length (now dst)) × (length (now src) ≡ length (now dst)) ⌝ }
+    ensures { λ _. ⌜ now (dst .exit) ≡ now (src .entry) ⌝ }
 {
     let n = dst.len();
-    let mut i = done;
-    while i < n {
-        dst[i] = src[i];
-        i += 1;
+    let mut i = 0;
+    while 16 < n - i {
+        copy16(dst, src, i);
+        i += 16;
+    }
+    copy16(dst, src, n - 16);
+}
+
+// Any number of bytes: below sixteen, the first and the last of a width, which may overlap.
+fn copy_any(dst: &mut [u8], src: &[u8])
+    requires { ⌜ length (now src) ≡ length (now dst) ⌝ }
+    ensures { λ _. ⌜ now (dst .exit) ≡ now (src .entry) ⌝ }
+{
+    let n = dst.len();
+    if 16 <= n {
+        copy_long(dst, src);
+        return;
+    }
+    if 8 <= n {
+        copy8(dst, src, 0);
+        copy8(dst, src, n - 8);
+        return;
+    }
+    if 4 <= n {
+        copy4(dst, src, 0);
+        copy4(dst, src, n - 4);
+        return;
+    }
+    if 2 <= n {
+        copy2(dst, src, 0);
+        copy2(dst, src, n - 2);
+        return;
+    }
+    if 1 <= n {
+        dst[0] = src[0];
     }
 }
 
-// All bytes of one slice into another of its length.
+// All bytes of one slice into another of its length. An element's eight bytes or one are moved where this is called; the rest is
+// called from two places, since what is called from one alone would be moved there too.
 pub fn copy(dst: &mut [u8], src: &[u8])
     requires { ⌜ length (now src) ≡ length (now dst) ⌝ }
     ensures { λ _. ⌜ now (dst .exit) ≡ now (src .entry) ⌝ }
 {
     let n = dst.len();
-    let mut i = 0;
-    while 8 <= n - i {
-        copy8(dst, src, i);
-        i += 8;
+    if n == 8 {
+        copy8(dst, src, 0);
+        return;
     }
-    copy_rest(dst, src, i);
+    if n == 1 {
+        dst[0] = src[0];
+        return;
+    }
+    if n < 8 {
+        copy_any(dst, src);
+        return;
+    }
+    copy_any(dst, src);
 }
 
 // Whether the window is one: at most 65,536 bytes, and not past 2^64.
@@ -126,4 +231,22 @@ pub fn inside(base: u64, room: u64, start: u64, n: u64) -> bool
         return false;
     }
     true
+}
+
+// How many places of a window of `room` bytes leave room for n bytes from there on.
+pub fn limit_of(room: u64, n: u64) -> u64
+    requires { ⌜ room ≤ 65536 ⌝ }
+    ensures { λ r. ⌜ r ≡ room + 1 - n ⌝ }
+{
+    if room < n {
+        return 0;
+    }
+    room - n + 1
+}
+
+// Whether the bytes from `start` on don't lie in the window, by that limit: one comparison, since a place that wraps is large.
+pub fn is_past(base: u64, limit: u64, start: u64) -> bool
+    ensures { λ r. ⌜ ((L n : ℕ) → windowOk base L ≡ true → 1 ≤ n → limit ≡ L + 1 - n → r ≡ not (inWindow base L start n)) ⌝ }
+{
+    limit <= std::num::wrapping_sub_u64(start, base)
 }

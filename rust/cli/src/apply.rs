@@ -3,10 +3,9 @@
 use crate::arguments::{unexpected, Arguments};
 use crate::command::{Command, Failure, Report};
 use crate::json::Json;
-use crate::output::Output;
+use crate::output::{self, Output};
 use crate::{input, numbers, show, verdicts};
-use starshackle::patch::{apply, Applied};
-use starshackle::Refusal;
+use starshackle::{apply, Applied, Refusal, Verdict, Window};
 
 pub const COMMAND: Command = Command {
     name: "apply",
@@ -15,9 +14,9 @@ pub const COMMAND: Command = Command {
 usage: starshackle apply [--json] PATCH --base ADDRESS --memory FILE -o OUT
 
 Applies a patch to a window, whose first byte has the address and whose bytes are those of FILE,
-and writes the window's bytes to OUT, which may be FILE. Shows the verdict with its detail and how
-many runs and payload bytes the patch has. All this is the proved model's answer. Where the model
-refuses, OUT is left as it was.
+and writes the window's bytes to OUT, which may be FILE but not PATCH. Shows the verdict with its
+detail and how many runs and payload bytes the patch has. All this is the proved model's answer.
+Where the model refuses, OUT is left as it was.
 
 The address is decimal or 0x and hexadecimal.
 
@@ -39,45 +38,26 @@ fn run(arguments: &Arguments) -> Result<Report, Failure> {
     })?;
     let memory = arguments.value("--memory", bytes)?;
     let out = arguments.value("-o", "the file to write")?;
+    output::differs(out, file)?;
     let patch = input::bytes(file, show::EXPECTED)?;
     let mut memory = input::bytes(memory, bytes)?;
-    let applied = apply(base, &mut memory, &patch);
+    let applied = apply(Window { base, memory: &mut memory }, &patch);
     let text = if arguments.json { json(&applied) } else { text(&applied) };
-    let done = matches!(applied, Applied::Done { .. });
-    let output = done.then(|| Output::prepare(out, &memory)).transpose()?;
-    Ok(Report { text, refused: !done, output })
+    let output = applied.is_ok().then(|| Output::prepare(out, &memory)).transpose()?;
+    Ok(Report { text, refused: applied.is_err(), output })
 }
 
-fn verdict(applied: &Applied) -> u64 {
-    match *applied {
-        Applied::Done { .. } => verdicts::DONE,
-        Applied::Outside { .. } => verdicts::OUTSIDE,
-        Applied::Refused(Refusal(number)) => number,
-    }
+fn text(applied: &Result<Applied, Refusal>) -> String {
+    verdicts::text(applied, |applied| show::counts(applied.runs, applied.bytes))
 }
 
-fn text(applied: &Applied) -> String {
-    let outcome = match *applied {
-        Applied::Done { runs, bytes } => show::counts(runs, bytes),
-        Applied::Outside { run, address } => {
-            format!("  run {run} at {}\n{}", numbers::address(address), verdicts::NOTHING)
-        }
-        Applied::Refused(_) => verdicts::NOTHING.to_string(),
-    };
-    verdicts::line(verdict(applied)) + &outcome
-}
-
-fn json(applied: &Applied) -> String {
-    let (runs, bytes, detail) = match *applied {
-        Applied::Done { runs, bytes } => (runs, bytes, None),
-        Applied::Outside { run, address } => (0, 0, Some((run, address))),
-        Applied::Refused(_) => (0, 0, None),
-    };
-    let mut members = Vec::from(verdicts::numbered(verdict(applied)));
+fn json(applied: &Result<Applied, Refusal>) -> String {
+    let counts = applied.unwrap_or(Applied { runs: 0, bytes: 0 });
+    let mut members = Vec::from(verdicts::members(Verdict::of(applied)));
     members.extend([
-        ("detail", verdicts::detail("run", detail)),
-        ("runs", runs.into()),
-        ("payload_bytes", bytes.into()),
+        ("detail", verdicts::detail_json(applied)),
+        ("runs", counts.runs.into()),
+        ("payload_bytes", counts.bytes.into()),
     ]);
     format!("{}\n", Json::Object(members))
 }

@@ -1,6 +1,7 @@
 //! Reading a subcommand's arguments.
 
-use std::ffi::OsString;
+use crate::quote::shown;
+use std::ffi::{OsStr, OsString};
 
 /// Bad usage: what is wrong and what was expected.
 #[derive(Debug, PartialEq, Eq)]
@@ -17,7 +18,8 @@ pub struct Arguments {
 }
 
 impl Arguments {
-    /// Takes options wherever they stand, up to a `--`. Those in `valued` take the next word.
+    /// Takes options wherever they stand, up to a `--`. Those in `valued` take the next word, or
+    /// what stands behind `=` in theirs.
     pub fn read(
         words: impl IntoIterator<Item = OsString>,
         valued: &[&'static str],
@@ -28,6 +30,8 @@ impl Arguments {
             let option = valued.iter().copied().find(|option| options && word == *option);
             if let Some(option) = option {
                 arguments.put(option, words.next())?;
+            } else if let Some((option, value)) = joined(&word, valued).filter(|_| options) {
+                arguments.put(option, Some(value.into()))?;
             } else if options && word == "--" {
                 options = false;
             } else if options && asks_for_help(&word) {
@@ -63,7 +67,9 @@ impl Arguments {
         match &self.operands[..] {
             [operand] => Ok(operand),
             [] => Err(Usage(format!("no file; expected {expected}"))),
-            [_, second, ..] => Err(Usage(format!("a second file, '{second}'; expected one"))),
+            [_, second, ..] => {
+                Err(Usage(format!("a second file, {}; expected one", shown(second))))
+            }
         }
     }
 }
@@ -72,11 +78,18 @@ pub fn asks_for_help(word: &OsString) -> bool {
     word == "--help" || word == "-h"
 }
 
+/// A long option and its value in one word.
+fn joined<'a>(word: &'a OsStr, valued: &[&'static str]) -> Option<(&'static str, &'a str)> {
+    let (name, value) = word.to_str()?.split_once('=')?;
+    let option = valued.iter().find(|option| **option == name && name.starts_with("--"))?;
+    Some((option, value))
+}
+
 fn operand(word: OsString, options: bool, valued: &[&str]) -> Result<String, Usage> {
     let word = utf_8(word)?;
     if options && word.starts_with('-') {
         let expected = one_of(valued.iter().copied().chain(["--json", "--help"]));
-        return Err(Usage(format!("unknown option '{word}'; expected {expected}")));
+        return Err(Usage(format!("unknown option {}; expected {expected}", shown(&word))));
     }
     Ok(word)
 }
@@ -91,7 +104,7 @@ pub fn pair(operand: &str) -> Result<(&str, &str), Usage> {
 }
 
 pub fn unexpected(found: &str, expected: &str) -> Usage {
-    Usage(format!("'{found}'; expected {expected}"))
+    Usage(format!("{}; expected {expected}", shown(found)))
 }
 
 /// The names as a message lists them.
@@ -139,7 +152,10 @@ mod tests {
         assert_eq!(arguments.value("--base", "an address"), Ok("-o"));
         assert!(arguments.value("--memory", "a file").is_err());
         assert!(!arguments.json);
-        for words in [&["-o"][..], &["-o", "a", "-o", "b"], &["-oa"], &["--base=1"]] {
+        let joined = read(&["--base=1=2", "--", "--base=3"]).unwrap();
+        assert_eq!(joined.value("--base", "an address"), Ok("1=2"));
+        assert_eq!(joined.operand("a file"), Ok("--base=3"));
+        for words in [&["-o"][..], &["-o", "a", "-o", "b"], &["-oa"], &["-o=a"], &["--json=a"]] {
             assert!(read(words).is_err(), "{words:?}");
         }
     }

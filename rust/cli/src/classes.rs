@@ -121,7 +121,7 @@ impl Entry {
                 return put(&mut store.multiple, numbers::signed(text), expected);
             }
         };
-        put(place, numbers::number(text), "a number of 64 bits, decimal or 0x hexadecimal")
+        put(place, numbers::number(text), numbers::EXPECTED)
     }
 }
 

@@ -42,6 +42,14 @@ pub enum Failure {
     File(String),
 }
 
+impl Failure {
+    /// What is wrong with a file.
+    pub fn of_file(path: &str, message: &str) -> Failure {
+        let path = if path.is_empty() { "''" } else { path };
+        Failure::File(format!("{path}: {message}"))
+    }
+}
+
 impl From<Usage> for Failure {
     fn from(usage: Usage) -> Failure {
         Failure::Usage(usage)

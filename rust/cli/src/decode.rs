@@ -5,7 +5,7 @@ use crate::command::{Command, Failure, Report};
 use crate::json::Json;
 use crate::known::{self, Known};
 use crate::{numbers, verdicts};
-use starshackle::Refusal;
+use starshackle::{Refusal, Verdict};
 
 pub const COMMAND: Command = Command {
     name: "decode",
@@ -64,14 +64,14 @@ impl Answer {
         let word = numbers::hexadecimal(self.word);
         match &self.outcome {
             Ok(known) => format!("{word}: {}", known.text()),
-            Err(refusal) => format!("{word}: {}\n", verdicts::text(*refusal)),
+            Err(refusal) => format!("{word}: {}\n", refusal.verdict()),
         }
     }
 
     fn json(&self) -> Json {
         let known = self.outcome.as_ref().ok();
         let mut members = vec![("word", numbers::hexadecimal(self.word).into())];
-        members.extend(verdicts::members(&self.outcome));
+        members.extend(verdicts::members(Verdict::of(&self.outcome)));
         members.extend(known::members(known));
         Json::Object(members)
     }

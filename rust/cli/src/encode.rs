@@ -5,8 +5,9 @@ use crate::classes::FIELDS;
 use crate::command::{Command, Failure, Report};
 use crate::json::Json;
 use crate::numbers::hexadecimal;
+use crate::quote::shown;
 use crate::{fields, verdicts};
-use starshackle::{Refusal, Store};
+use starshackle::{Refusal, Store, Verdict};
 
 pub const COMMAND: Command = Command {
     name: "encode",
@@ -16,13 +17,15 @@ usage: starshackle encode [--json] NAME=VALUE...
 
 Shows the word of the store with these fields, or that there is none: fields (verdict 11).
 
-  class=N              the class by its number
-  zm=N or rm=N         the vector or the general register of the offset
-  extension=E          none, uxtw or sxtw
-  pg=N or pc=N         the predicate register, or the counter's register less 8
-  rn=N or zn=N         the general or the vector register of the base
-  zt=N or first=N      the register that is stored, or the first of a strided store
-  multiple=N           the signed immediate, in vectors
+  class=N              the class by its number, 1 to 12
+  zm=N or rm=N         the vector or the general register of the offset, 0 to 31
+  extension=E          uxtw or sxtw in classes 1, 2, 5 and 6, none in the others
+  pg=N or pc=N         the predicate register, or the counter's register less 8, 0 to 7
+  rn=N or zn=N         the general or the vector register of the base, 0 to 31
+  zt=N or first=N      the register that is stored, 0 to 31, or the first of a strided store:
+                       0 to 7 and 16 to 23 of two registers, 0 to 3 and 16 to 19 of four
+  multiple=N           the signed immediate, in vectors: -16, -14 .. 14 of two registers,
+                       -32, -28 .. 28 of four
 
 Numbers are decimal or 0x and hexadecimal. A field that isn't given is 0, and extension is none.
 Of two names in a line, only the one that the class has may be given.
@@ -46,13 +49,13 @@ fn run(arguments: &Arguments) -> Result<Report, Failure> {
 fn text(outcome: &Result<u32, Refusal>) -> String {
     match outcome {
         Ok(word) => hexadecimal(*word),
-        Err(refusal) => verdicts::text(*refusal),
+        Err(refusal) => refusal.to_string(),
     }
 }
 
 fn json(outcome: &Result<u32, Refusal>) -> Json {
     let mut members = vec![("word", outcome.ok().map(hexadecimal).into())];
-    members.extend(verdicts::members(outcome));
+    members.extend(verdicts::members(Verdict::of(outcome)));
     Json::Object(members)
 }
 
@@ -76,5 +79,5 @@ fn store(operands: &[String]) -> Result<Store, Usage> {
 
 fn unknown(name: &str) -> Usage {
     let expected = one_of(FIELDS.iter().map(|field| field.name));
-    Usage(format!("unknown name '{name}'; expected {expected}"))
+    Usage(format!("unknown name {}; expected {expected}", shown(name)))
 }

@@ -21,6 +21,7 @@ mod numbers;
 mod output;
 mod patch;
 mod picture;
+mod quote;
 mod run;
 mod show;
 mod verdicts;
@@ -29,7 +30,7 @@ use arguments::{Arguments, Usage};
 use command::{Command, Failure, Report};
 use output::Output;
 use std::ffi::OsString;
-use std::io::{self, Write};
+use std::io::{self, ErrorKind, Write};
 use std::process::ExitCode;
 
 /// The subcommands, in the order in which the help shows them.
@@ -57,11 +58,13 @@ fn main() -> ExitCode {
             Ok(report) => answer(report),
             Err(failure) => complain(command, &failure),
         },
-        None if first.as_ref().map_or(false, arguments::asks_for_help) => {
-            answer(Report::new(help(), false))
-        }
+        None if first.as_ref().map_or(false, asks_for_help) => answer(Report::new(help(), false)),
         None => fail(&format!("starshackle: {}\n{USAGE}", no_command(first).0)),
     }
+}
+
+fn asks_for_help(first: &OsString) -> bool {
+    first == "help" || arguments::asks_for_help(first)
 }
 
 fn call(command: &Command, words: impl Iterator<Item = OsString>) -> Result<Report, Failure> {
@@ -87,7 +90,7 @@ Exit status: 0 done, 1 refused by the model, 2 bad usage or an unreadable file.
 fn no_command(first: Option<OsString>) -> Usage {
     let expected = arguments::one_of(COMMANDS.iter().map(|command| command.name));
     let found = match first {
-        Some(word) => format!("unknown command '{}'", word.to_string_lossy()),
+        Some(word) => format!("unknown command {}", quote::shown(&word.to_string_lossy())),
         None => "no command".to_string(),
     };
     Usage(format!("{found}; expected {expected}"))
@@ -96,8 +99,11 @@ fn no_command(first: Option<OsString>) -> Usage {
 /// Writes the report to standard output, then its file. The exit status is the model's answer.
 fn answer(report: Report) -> ExitCode {
     let mut out = io::stdout().lock();
-    if let Err(error) = out.write_all(report.text.as_bytes()).and_then(|()| out.flush()) {
-        return fail(&format!("starshackle: standard output: {error}"));
+    match out.write_all(report.text.as_bytes()).and_then(|()| out.flush()) {
+        // The reader, such as `head`, has seen enough.
+        Err(error) if error.kind() == ErrorKind::BrokenPipe && report.output.is_none() => (),
+        Err(error) => return fail(&format!("starshackle: standard output: {error}")),
+        Ok(()) => (),
     }
     match report.output.map_or(Ok(()), Output::put) {
         Ok(()) if report.refused => ExitCode::from(REFUSED),

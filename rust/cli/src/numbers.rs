@@ -22,6 +22,9 @@ pub fn bytes(bytes: &[u8], separator: &str) -> String {
     digits.join(separator)
 }
 
+/// What [`number`] takes, for messages.
+pub const EXPECTED: &str = "an unsigned number of 64 bits, decimal or 0x hexadecimal";
+
 /// A number, decimal or `0x` and hexadecimal.
 pub fn number(text: &str) -> Option<u64> {
     u64::try_from(wide(text)?).ok()

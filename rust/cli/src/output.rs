@@ -30,8 +30,8 @@ impl Output {
         match names(name, bytes) {
             Ok(names) => Ok(Output { name: name.to_string(), names }),
             Err(error) => {
-                let expected = "a file that can be written";
-                Err(Failure::File(format!("{name}: {error}; expected {expected}")))
+                let message = format!("{error}; expected a file that can be written");
+                Err(Failure::of_file(name, &message))
             }
         }
     }
@@ -44,6 +44,18 @@ impl Output {
             }
             None => Ok(()),
         }
+    }
+}
+
+/// Refuses an output that would replace a file which the call reads and OUT isn't meant to be.
+pub fn differs(out: &str, input: &str) -> Result<(), Failure> {
+    let file = |name: &str| Path::new(name).canonicalize().ok().filter(|path| path.is_file());
+    match (file(out), file(input)) {
+        (Some(path), Some(other)) if path == other => {
+            let message = format!("the same file as {input}, which is read; expected another");
+            Err(Failure::of_file(out, &message))
+        }
+        _ => Ok(()),
     }
 }
 

@@ -7,8 +7,7 @@ use crate::known::{self, Known};
 use crate::picture::picture;
 use crate::store::{self, Described};
 use crate::{numbers, verdicts};
-use starshackle::run::{element, Element, Machine, Outcome, Window};
-use starshackle::Refusal;
+use starshackle::{element, Element, Machine, Ran, Refusal, Verdict, Window};
 
 pub const COMMAND: Command = Command {
     name: "run",
@@ -38,16 +37,16 @@ Exit status: 0 done, 1 refused by the model, 2 bad usage or an unreadable file.
 };
 
 fn run(arguments: &Arguments) -> Result<Report, Failure> {
-    let ran = Ran::of(store::read(arguments.operand(store::EXPECTED)?)?);
-    let text = if arguments.json { format!("{}\n", ran.json()) } else { ran.text() };
-    Ok(Report::new(text, ran.verdict() != verdicts::DONE))
+    let answer = Answer::of(store::read(arguments.operand(store::EXPECTED)?)?);
+    let text = if arguments.json { format!("{}\n", answer.json()) } else { answer.text() };
+    Ok(Report::new(text, answer.outcome.is_err()))
 }
 
 /// A store after its run.
-struct Ran {
+struct Answer {
     word: Option<u32>,
     known: Option<Known>,
-    outcome: Outcome,
+    outcome: Result<Ran, Refusal>,
     elements: Vec<Row>,
     base: u64,
     length: u64,
@@ -60,37 +59,25 @@ struct Row {
     bytes: Vec<u8>,
 }
 
-impl Ran {
-    fn of(described: Described) -> Ran {
+impl Answer {
+    fn of(described: Described) -> Answer {
         let Described { word, registers, base, length, mut memory } = described;
         let machine = registers.machine();
         let window = Window { base, memory: &mut memory };
         let (outcome, elements) = match word {
-            Ok(word) => (starshackle::run::run(&machine, window, word), rows(&machine, word)),
-            Err(refusal) => (Outcome::Refused(refusal), Vec::new()),
+            Ok(word) => (starshackle::run(&machine, window, word), rows(&machine, word)),
+            Err(refusal) => (Err(refusal), Vec::new()),
         };
         let word = word.ok();
         let known = word.and_then(|word| Known::decode(word).ok());
-        Ran { word, known, outcome, elements, base, length, memory }
-    }
-
-    fn verdict(&self) -> u64 {
-        match self.outcome {
-            Outcome::Done { .. } => verdicts::DONE,
-            Outcome::Fault { .. } => verdicts::FAULT,
-            Outcome::Refused(Refusal(number)) => number,
-        }
+        Answer { word, known, outcome, elements, base, length, memory }
     }
 
     fn text(&self) -> String {
-        let outcome = match self.outcome {
-            Outcome::Done { elements, bytes } => verdicts::counts(elements, bytes),
-            Outcome::Fault { element, address } => verdicts::fault(element, address),
-            Outcome::Refused(_) => verdicts::NOTHING.to_string(),
-        };
+        let counts = |ran: &Ran| verdicts::counts(ran.elements, ran.bytes);
         let parts = [self.store_text(), self.elements_text(), self.window_text()];
         let parts: String = parts.into_iter().flatten().map(|part| format!("\n{part}")).collect();
-        verdicts::line(self.verdict()) + &outcome + &parts
+        verdicts::text(&self.outcome, counts) + &parts
     }
 
     fn store_text(&self) -> Option<String> {
@@ -115,12 +102,16 @@ impl Ran {
     }
 
     fn faults(&self, number: usize) -> bool {
-        matches!(self.outcome, Outcome::Fault { element, .. } if element == number as u64)
+        matches!(self.outcome, Err(Refusal::Fault { element, .. }) if element == number as u64)
     }
 
-    /// The window, unless the store was refused before its elements were held to it.
+    /// Whether the store's elements were held to the window, and it wasn't refused before.
+    fn reached_window(&self) -> bool {
+        matches!(self.outcome, Ok(_) | Err(Refusal::Fault { .. }))
+    }
+
     fn window_text(&self) -> Option<String> {
-        if matches!(self.outcome, Outcome::Refused(_)) {
+        if !self.reached_window() {
             return None;
         }
         let (address, length) = (numbers::address(self.base), self.length);
@@ -131,7 +122,7 @@ impl Ran {
     /// For each byte of the window, whether an active element has written it.
     fn written(&self) -> Vec<bool> {
         let mut written = vec![false; self.memory.len()];
-        if self.verdict() == verdicts::DONE {
+        if self.outcome.is_ok() {
             for Element { address, bytes, .. } in self.active() {
                 let first = address.wrapping_sub(self.base) as usize;
                 written.iter_mut().skip(first).take(bytes as usize).for_each(|byte| *byte = true);
@@ -145,17 +136,13 @@ impl Ran {
     }
 
     fn json(&self) -> Json {
-        let (elements, bytes, detail) = match self.outcome {
-            Outcome::Done { elements, bytes } => (elements, bytes, None),
-            Outcome::Fault { element, address } => (0, 0, Some((element, address))),
-            Outcome::Refused(_) => (0, 0, None),
-        };
+        let Ran { elements, bytes } = self.outcome.unwrap_or(Ran { elements: 0, bytes: 0 });
         let mut members = vec![("word", self.word.map(numbers::hexadecimal).into())];
-        members.extend(verdicts::numbered(self.verdict()));
+        members.extend(verdicts::members(Verdict::of(&self.outcome)));
         members.extend(known::members(self.known.as_ref()));
         let rows = self.elements.iter().enumerate().map(|(number, row)| row.json(number));
         members.extend([
-            ("detail", verdicts::detail("element", detail)),
+            ("detail", verdicts::detail_json(&self.outcome)),
             ("active_elements", elements.into()),
             ("bytes_moved", bytes.into()),
             ("elements", Json::List(rows.collect())),
@@ -165,11 +152,11 @@ impl Ran {
     }
 
     fn window_json(&self) -> Json {
-        let seen = !matches!(self.outcome, Outcome::Refused(_));
+        let memory = self.reached_window().then(|| numbers::bytes(&self.memory, ""));
         Json::Object(vec![
             ("address", numbers::address(self.base).into()),
             ("length", self.length.into()),
-            ("memory", seen.then(|| numbers::bytes(&self.memory, "")).into()),
+            ("memory", memory.into()),
         ])
     }
 }

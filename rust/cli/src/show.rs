@@ -4,7 +4,8 @@ use crate::arguments::Arguments;
 use crate::command::{Command, Failure, Report};
 use crate::json::Json;
 use crate::{input, numbers, verdicts};
-use starshackle::patch::{judge, Judged};
+use starshackle::patch::{runs, Run};
+use starshackle::{judge, Judged, NoPatch, Refusal, Verdict};
 
 pub const COMMAND: Command = Command {
     name: "show",
@@ -38,11 +39,9 @@ pub const EXPECTED: &str = "a file with a patch";
 fn run(arguments: &Arguments) -> Result<Report, Failure> {
     let patch = input::bytes(arguments.operand(EXPECTED)?, EXPECTED)?;
     let judged = judge(&patch);
-    let runs = match judged {
-        Judged::Patch { runs, .. } | Judged::NoPatch { runs, .. } => Run::all(&patch, runs),
-    };
+    let runs: Vec<Run> = runs(&patch).collect();
     let text = if arguments.json { json(&judged, &runs) } else { text(&patch, &judged, &runs) };
-    Ok(Report::new(text, matches!(judged, Judged::NoPatch { .. })))
+    Ok(Report::new(text, judged.is_err()))
 }
 
 /// What text shows of the runs' number and bytes.
@@ -50,73 +49,38 @@ pub fn counts(runs: u64, bytes: u64) -> String {
     format!("  runs {runs}, payload bytes {bytes}\n")
 }
 
-/// A run that the model has accepted.
-struct Run<'a> {
-    offset: usize,
-    address: u64,
-    bytes: &'a [u8],
+/// A line of the table, with a further one for each 16 bytes.
+fn line(number: usize, run: &Run) -> String {
+    let Run { offset, address, bytes } = run;
+    let (address, length) = (numbers::address(*address), bytes.len());
+    let start = format!("{number:>3}  {offset:>6}  {address}  {length:>6}");
+    let lines: Vec<String> = bytes.chunks(16).map(|line| numbers::bytes(line, " ")).collect();
+    let next = format!("\n{:width$}  ", "", width = start.len());
+    format!("{start}  {}\n", lines.join(&next))
 }
 
-/// The bytes of a run before its payload.
-const HEADER: usize = 12;
-
-impl<'a> Run<'a> {
-    /// The runs from the front, of which the model has accepted so many.
-    fn all(patch: &'a [u8], count: u64) -> Vec<Run<'a>> {
-        let mut offset = 0;
-        let run = |_| {
-            let run = Run::at(patch, offset)?;
-            offset += HEADER + run.bytes.len();
-            Some(run)
-        };
-        (0..count).map_while(run).collect()
-    }
-
-    fn at(patch: &'a [u8], offset: usize) -> Option<Run<'a>> {
-        let (header, behind) = (patch.get(offset..)?.get(..HEADER)?, &patch[offset + HEADER..]);
-        let address = u64::from_le_bytes(header[2..10].try_into().ok()?);
-        let length = u16::from_le_bytes(header[10..].try_into().ok()?);
-        Some(Run { offset, address, bytes: behind.get(..length.into())? })
-    }
-
-    /// A line of the table, with a further one for each 16 bytes.
-    fn text(&self, number: usize) -> String {
-        let Run { offset, address, bytes } = self;
-        let (address, length) = (numbers::address(*address), bytes.len());
-        let start = format!("{number:>3}  {offset:>6}  {address}  {length:>6}");
-        let lines: Vec<String> = bytes.chunks(16).map(|line| numbers::bytes(line, " ")).collect();
-        let next = format!("\n{:width$}  ", "", width = start.len());
-        format!("{start}  {}\n", lines.join(&next))
-    }
-
-    fn json(&self, number: usize) -> Json {
-        Json::Object(vec![
-            ("run", (number as u64).into()),
-            ("offset", (self.offset as u64).into()),
-            ("address", numbers::address(self.address).into()),
-            ("length", (self.bytes.len() as u64).into()),
-            ("bytes", numbers::bytes(self.bytes, "").into()),
-        ])
-    }
+fn member((number, run): (usize, &Run)) -> Json {
+    Json::Object(vec![
+        ("run", (number as u64).into()),
+        ("offset", (run.offset as u64).into()),
+        ("address", numbers::address(run.address).into()),
+        ("length", (run.bytes.len() as u64).into()),
+        ("bytes", numbers::bytes(run.bytes, "").into()),
+    ])
 }
 
-fn verdict(judged: &Judged) -> u64 {
-    match judged {
-        Judged::Patch { .. } => verdicts::DONE,
-        Judged::NoPatch { .. } => verdicts::BAD_PATCH,
-    }
-}
-
-fn text(patch: &[u8], judged: &Judged, runs: &[Run]) -> String {
-    let outcome = match *judged {
-        Judged::Patch { runs, bytes } => counts(runs, bytes),
-        Judged::NoPatch { runs, offset } => wrong(patch, runs, offset),
+fn text(patch: &[u8], judged: &Result<Judged, NoPatch>, runs: &[Run]) -> String {
+    let mut text = match *judged {
+        Ok(Judged { runs, bytes }) => format!("{}\n{}", Verdict::Done, counts(runs, bytes)),
+        Err(NoPatch { runs, offset }) => {
+            let verdict = Verdict::BadPatch;
+            format!("{verdict}: {}\n{}", verdict.cause(), wrong(patch, runs, offset))
+        }
     };
-    let mut text = verdicts::line(verdict(judged)) + &outcome;
     if !runs.is_empty() {
         text += "\nrun  offset  address             length  bytes\n";
     }
-    text.extend(runs.iter().enumerate().map(|(number, run)| run.text(number)));
+    text.extend(runs.iter().enumerate().map(|(number, run)| line(number, run)));
     text
 }
 
@@ -137,18 +101,14 @@ fn wrong(patch: &[u8], runs: u64, offset: u64) -> String {
     )
 }
 
-fn json(judged: &Judged, runs: &[Run]) -> String {
+fn json(judged: &Result<Judged, NoPatch>, runs: &[Run]) -> String {
     let bytes: usize = runs.iter().map(|run| run.bytes.len()).sum();
-    let offset = match *judged {
-        Judged::Patch { .. } => None,
-        Judged::NoPatch { offset, .. } => Some(offset),
-    };
-    let runs = runs.iter().enumerate().map(|(number, run)| run.json(number));
-    let mut members = Vec::from(verdicts::numbered(verdict(judged)));
+    let verdict = Verdict::of(&judged.map_err(Refusal::from));
+    let mut members = Vec::from(verdicts::members(verdict));
     members.extend([
-        ("runs", Json::List(runs.collect())),
+        ("runs", Json::List(runs.iter().enumerate().map(member).collect())),
         ("payload_bytes", (bytes as u64).into()),
-        ("offset", offset.into()),
+        ("offset", judged.err().map(|problem| problem.offset).into()),
     ]);
     format!("{}\n", Json::Object(members))
 }

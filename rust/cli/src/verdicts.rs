@@ -1,97 +1,66 @@
-//! Verdicts by number and name.
+//! Verdicts as answers show them.
 
 use crate::json::Json;
 use crate::numbers;
-use starshackle::Refusal;
+use starshackle::{Refusal, Verdict};
 
-const UNDEFINED: &str = "the word has no class, or its class needs a flag that is off: \
-                         sve for 1 to 7, sme2 for 8 to 11, sve2p1 for 12";
-const ILLEGAL: &str = "classes 1 to 7 and 12 need streaming off or fa64 on, \
-                       classes 8 to 11 need streaming on";
-
-/// By number, the name and when it is given.
-const VERDICTS: &[(&str, &str)] = &[
-    ("done", ""),
-    ("length", "VB isn't 16, 32, 64, 128 or 256"),
-    ("registers", "the Z or P buffer has another size"),
-    ("window", "the window has more than 65,536 bytes, or passes the top of the address space"),
-    ("undefined", UNDEFINED),
-    ("illegal", ILLEGAL),
-    ("stack", "SP is the base, it is checked, and it isn't a multiple of 16"),
-    ("fault", "an active element has a byte outside the window"),
-    ("no room", "the buffer is shorter than the patch"),
-    ("bad patch", "the bytes are not a patch"),
-    ("outside", "a run isn't wholly in the window"),
-    ("fields", "no word has these fields"),
-];
-
-pub const DONE: u64 = 0;
-pub const FAULT: u64 = 7;
-pub const NO_ROOM: u64 = 8;
-pub const BAD_PATCH: u64 = 9;
-pub const OUTSIDE: u64 = 10;
-
-fn named(number: u64) -> (&'static str, &'static str) {
-    let verdict = usize::try_from(number).ok().and_then(|number| VERDICTS.get(number));
-    *verdict.unwrap_or(&("unnamed", ""))
-}
-
-/// A refusal as text shows it.
-pub fn text(Refusal(number): Refusal) -> String {
-    format!("{} (verdict {number})", named(number).0)
-}
-
-/// A verdict as text shows it, with its cause.
-pub fn line(number: u64) -> String {
-    let verdict = text(Refusal(number));
-    match named(number).1 {
-        "" => format!("{verdict}\n"),
-        cause => format!("{verdict}: {cause}\n"),
+/// What text shows of a call: its counts where it is done, or the refusal with cause and detail.
+pub fn text<T>(outcome: &Result<T, Refusal>, counts: impl Fn(&T) -> String) -> String {
+    let verdict = Verdict::of(outcome);
+    match outcome {
+        Ok(done) => format!("{verdict}\n{}", counts(done)),
+        Err(refusal) => {
+            let detail = detail(refusal).map_or(String::new(), |(what, number, address)| {
+                format!("  {what} {number} at {}\n", numbers::address(address))
+            });
+            format!("{verdict}: {}\n{detail}  nothing was written\n", verdict.cause())
+        }
     }
 }
 
-/// What text shows below a refusal without detail.
-pub const NOTHING: &str = "  nothing was written\n";
-
-/// The counts of a done store.
+/// The counts of a store.
 pub fn counts(elements: u64, bytes: u64) -> String {
     format!("  active elements {elements}, bytes moved {bytes}\n")
 }
 
-/// The detail of a fault.
-pub fn fault(element: u64, address: u64) -> String {
-    format!("  element {element} at {}\n{NOTHING}", numbers::address(address))
+/// What a refusal is about, its number, and its address.
+fn detail(refusal: &Refusal) -> Option<(&'static str, u64, u64)> {
+    match *refusal {
+        Refusal::Fault { element, address } => Some(("element", element, address)),
+        Refusal::Outside { run, address } => Some(("run", run, address)),
+        _ => None,
+    }
 }
 
-/// A verdict's detail in JSON: what has which number, and its address.
-pub fn detail(what: &'static str, detail: Option<(u64, u64)>) -> Json {
-    let members = |(number, address): (u64, u64)| {
+/// The detail in JSON.
+pub fn detail_json<T>(outcome: &Result<T, Refusal>) -> Json {
+    let detail = outcome.as_ref().err().and_then(detail);
+    let members = |(what, number, address): (&'static str, u64, u64)| {
         Json::Object(vec![(what, number.into()), ("address", numbers::address(address).into())])
     };
     detail.map(members).into()
 }
 
 /// The members that a verdict has in JSON.
-pub fn members<T>(outcome: &Result<T, Refusal>) -> [(&'static str, Json); 2] {
-    numbered(match outcome {
-        Ok(_) => DONE,
-        Err(Refusal(number)) => *number,
-    })
-}
-
-/// The members of the verdict with this number.
-pub fn numbered(number: u64) -> [(&'static str, Json); 2] {
-    [("verdict", number.into()), ("verdict_name", named(number).0.into())]
+pub fn members(verdict: Verdict) -> [(&'static str, Json); 2] {
+    [("verdict", verdict.number().into()), ("verdict_name", verdict.name().into())]
 }
 
 #[cfg(test)]
 mod tests {
     use super::*;
 
+    /// Refusals that no file brings too: 2, since registers come with their length, and 8, since
+    /// the buffer has room for every patch.
     #[test]
-    fn texts() {
-        assert_eq!(text(Refusal(4)), "undefined (verdict 4)");
-        assert_eq!(text(Refusal(11)), "fields (verdict 11)");
-        assert_eq!(text(Refusal(u64::MAX)), "unnamed (verdict 18446744073709551615)");
+    fn refusals() {
+        let shown = |refusal: Refusal| text(&Err(refusal), |()| String::new());
+        let registers = "registers (verdict 2): the Z or P buffer has another size\n";
+        assert_eq!(shown(Refusal::Registers), format!("{registers}  nothing was written\n"));
+        let no_room = "no room (verdict 8): the buffer is shorter than the patch\n";
+        assert_eq!(shown(Refusal::NoRoom), format!("{no_room}  nothing was written\n"));
+        let outside = shown(Refusal::Outside { run: 2, address: 0x1005 });
+        assert!(outside.ends_with("\n  run 2 at 0x0000000000001005\n  nothing was written\n"));
+        assert_eq!(detail_json(&Err::<(), _>(Refusal::NoRoom)).to_string(), "null");
     }
 }

@@ -1,6 +1,8 @@
 //! What the command line does beyond the answers in `tests/golden/`.
 
-use std::process::{Command, Output};
+use std::fs;
+use std::path::Path;
+use std::process::{Command, Output, Stdio};
 
 /// Words of all classes.
 const WORDS: &[&str] = &[
@@ -37,6 +39,19 @@ fn encode_takes_what_decode_gives() {
     }
 }
 
+/// The README's copy is true, but for the line of assembly, which it leaves out.
+#[test]
+fn the_readme_shows_the_first_answer() {
+    let root = Path::new(env!("CARGO_MANIFEST_DIR")).join("../..");
+    let readme = fs::read_to_string(root.join("README.md")).unwrap();
+    let mut run = command(&["run", "examples/whole.store"]);
+    let answer = text_of(run.current_dir(root).output().unwrap());
+    let proved = answer.lines().filter(|line| !line.contains("(not proved)"));
+    let block: String =
+        proved.map(|line| format!("    {line}").trim_end().to_string() + "\n").collect();
+    assert!(readme.contains(&block), "{block}");
+}
+
 #[cfg(target_os = "linux")]
 #[test]
 fn a_full_disk_is_told() {
@@ -46,6 +61,42 @@ fn a_full_disk_is_told() {
     let output = command(&["decode", "A16F6000"]).stdout(full).output().unwrap();
     assert_eq!(output.status.code(), Some(2));
     assert!(String::from_utf8(output.stderr).unwrap().starts_with("starshackle: standard output:"));
+}
+
+/// As `| head -1` ends: the status is the answer's, and nothing is said.
+#[cfg(unix)]
+#[test]
+fn a_reader_that_leaves() {
+    for (word, status) in [("A16F6000", 0), ("E4208000", 1)] {
+        let mut decode = command(&["decode", word]);
+        let child = decode.stdout(closed_pipe()).stderr(Stdio::piped()).spawn().unwrap();
+        let output = child.wait_with_output().unwrap();
+        assert_eq!(output.status.code(), Some(status));
+        assert!(output.stderr.is_empty());
+    }
+}
+
+/// A pipe into a process that is gone.
+#[cfg(unix)]
+fn closed_pipe() -> std::process::ChildStdin {
+    let mut reader = Command::new("true").stdin(Stdio::piped()).spawn().unwrap();
+    let pipe = reader.stdin.take().unwrap();
+    reader.wait().unwrap();
+    pipe
+}
+
+/// No file is written that nobody was told of.
+#[cfg(unix)]
+#[test]
+fn a_reader_that_leaves_before_a_file_is_written() {
+    let out = Path::new(env!("CARGO_TARGET_TMPDIR")).join("unread.patch");
+    let store = concat!(env!("CARGO_MANIFEST_DIR"), "/../../examples/whole.store");
+    let mut patch = command(&["patch", store, "-o", out.to_str().unwrap()]);
+    let child = patch.stdout(closed_pipe()).stderr(Stdio::piped()).spawn().unwrap();
+    let output = child.wait_with_output().unwrap();
+    assert_eq!(output.status.code(), Some(2));
+    assert!(String::from_utf8(output.stderr).unwrap().starts_with("starshackle: standard output:"));
+    assert!(!out.exists());
 }
 
 #[cfg(unix)]

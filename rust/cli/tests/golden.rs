@@ -85,11 +85,32 @@ fn made_files() -> PathBuf {
         ("no-byte.patch", &changed(10, 0)),
         ("three-runs.patch", &changed(29, 3)),
         ("random.patch", &[0x9C; 100]),
+        ("zeros", &[0; 100]),
     ];
     for (name, bytes) in files {
         fs::write(folder.join(name), bytes).unwrap();
     }
+    for (name, bytes) in stores() {
+        fs::write(folder.join(name), bytes).unwrap();
+    }
     folder
+}
+
+/// One store in files as other systems and other hands write them.
+fn stores() -> [(&'static str, Vec<u8>); 8] {
+    let file = Path::new(ROOT).join("examples/whole.store");
+    let text = fs::read_to_string(file).unwrap().replace("\r\n", "\n");
+    let word = |word| text.replace("0xE4428001", word).into_bytes();
+    [
+        ("crlf.store", text.replace('\n', "\r\n").into_bytes()),
+        ("mark.store", format!("\u{FEFF}{text}").into_bytes()),
+        ("no-newline.store", text.trim_end().as_bytes().to_vec()),
+        ("capitals.store", text.to_uppercase().into_bytes()),
+        ("tabs.store", text.replace(' ', "\t").into_bytes()),
+        ("utf-16.store", text.encode_utf16().flat_map(u16::to_le_bytes).collect()),
+        ("decimal.store", word("3829563393")),
+        ("eight-digits.store", word("12345678")),
+    ]
 }
 
 /// The arguments in a line that starts a block.

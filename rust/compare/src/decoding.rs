@@ -77,7 +77,7 @@ impl Comparison<'_> {
             self.words((0..BLOCK).map(|low| start | low), tally);
         } else {
             let mut random = Random::new(u64::from(top));
-            let mut within = || random.next() as u32 % STRATUM;
+            let mut within = || random.number() as u32 % STRATUM;
             let sample = (0..BLOCK).step_by(STRATUM as usize).map(|low| start + low + within());
             self.words(sample, tally);
         }

@@ -117,7 +117,7 @@ fn at_random(comparison: &mut Comparison, edges: &[u64]) {
     let mut random = Random::new(1);
     for _ in 0..RANDOM {
         let number = random.below(CLASSES.len());
-        let mut fields = comparison.valid(number, random.next() as u32);
+        let mut fields = comparison.valid(number, random.number() as u32);
         for _ in 0..random.below(4) {
             let entry = random.below(fields.len());
             fields[entry] = changed(fields[entry], &mut random, edges);
@@ -132,7 +132,7 @@ fn changed(value: u64, random: &mut Random, edges: &[u64]) -> u64 {
         0 => value.wrapping_add(1),
         1 => value.wrapping_sub(1),
         2 => value ^ 1 << random.below(64),
-        3 => random.next(),
+        3 => random.number(),
         4 | 5 => random.below(SMALL as usize) as u64,
         _ => random.pick(edges),
     }

@@ -2,23 +2,10 @@
 
 #![forbid(unsafe_code)]
 
-mod counts;
-mod decoding;
-mod encoding;
-mod making;
-mod patches;
-mod patterns;
-mod random;
-mod reference;
-mod report;
-mod running;
-mod timing;
-mod workers;
-
-use decoding::Extent;
-use reference::{Outcome, Reference};
-use report::Report;
-use starshackle::Fields;
+use compare::decoding::{self, Extent};
+use compare::reference::{self, Reference};
+use compare::report::{self, Report};
+use compare::{encoding, making, patches, running};
 use std::io::{self, BufWriter, Write};
 use std::process::ExitCode;
 
@@ -29,25 +16,12 @@ usage: compare --texts BYTE
   print each word of a class with this top byte: the word, its class, its assembly text
 usage: compare --patches [STRINGS [SEED]] [--threads N]
   compare judging and applying patches on random strings
-usage: compare --bench-patches
-  measure applying patches";
-
-const RUN_USAGE: &str = "\
 usage: compare --run [STORES] [--threads N]
   compare running on random stores
 usage: compare --store NUMBER
   compare running, and making a patch, on the random store with this number
-usage: compare --bench
-  measure running";
-
-const MAKE_USAGE: &str = "\
 usage: compare --make [STORES] [--threads N]
-  compare making patches on random stores
-usage: compare --bench-make
-  measure making patches";
-
-/// What every answer holds before a call, so that an entry left alone shows.
-const GARBAGE: u64 = 0xD1D2_D3D4_D5D6_D7D8;
+  compare making patches on random stores";
 
 /// Threads that compare where no number is given.
 const THREADS: usize = 2;
@@ -57,12 +31,9 @@ enum Task {
     Compare { extent: Extent, threads: usize },
     Texts { top: u8 },
     Patches { strings: u64, seed: u64, threads: usize },
-    BenchPatches,
     Run { stores: u64, threads: usize },
     Store { number: u64 },
-    Bench,
     Make { stores: u64, threads: usize },
-    BenchMake,
 }
 
 fn main() -> ExitCode {
@@ -72,8 +43,6 @@ fn main() -> ExitCode {
         Some(task) => perform(task),
         None => {
             eprintln!("{USAGE}");
-            eprintln!("{RUN_USAGE}");
-            eprintln!("{MAKE_USAGE}");
             ExitCode::from(2)
         }
     }
@@ -91,14 +60,11 @@ fn task(arguments: &[&str]) -> Option<Task> {
         ["--sample"] => Task::Compare { extent: Extent::Sample, threads },
         ["--texts", top] => Task::Texts { top: u8::from_str_radix(top, 16).ok()? },
         ["--patches", numbers @ ..] => patches_task(numbers, threads)?,
-        ["--bench-patches"] => Task::BenchPatches,
         ["--run"] => Task::Run { stores: running::STORES, threads },
         ["--run", stores] => Task::Run { stores: stores.parse().ok()?, threads },
         ["--store", number] => Task::Store { number: number.parse().ok()? },
-        ["--bench"] => Task::Bench,
         ["--make"] => Task::Make { stores: making::STORES, threads },
         ["--make", stores] => Task::Make { stores: stores.parse().ok()?, threads },
-        ["--bench-make"] => Task::BenchMake,
         _ => return None,
     })
 }
@@ -120,15 +86,12 @@ fn perform(task: Task) -> ExitCode {
         Task::Compare { extent, threads } => compare(&report, extent, threads),
         Task::Texts { top } => return listed(texts(top)),
         Task::Patches { strings, seed, threads } => patches::run(&report, strings, seed, threads),
-        Task::BenchPatches => return listed(patches::bench::print()),
         Task::Run { stores, threads } => running::run(&report, stores, threads),
         Task::Store { number } => {
             running::one(&report, number);
             making::one(&report, number);
         }
-        Task::Bench => return listed(running::bench::print()),
         Task::Make { stores, threads } => making::run(&report, stores, threads),
-        Task::BenchMake => return listed(making::bench::print(&starshackle::make_patch_numbers)),
     }
     let (passed, text) = match (report.differences(), report.misses()) {
         (0, 0) => (ExitCode::SUCCESS, "no difference"),
@@ -176,20 +139,4 @@ fn texts(top: u8) -> io::Result<()> {
         }
     }
     out.flush()
-}
-
-/// The model's decoder, its fields filled with garbage beforehand.
-#[inline]
-fn model_decode(word: u32) -> Outcome<8> {
-    let mut numbers = [GARBAGE; 8];
-    let verdict = starshackle::decode_fields(word, &mut numbers);
-    Outcome { verdict, numbers }
-}
-
-/// The model's encoder, its answer filled with garbage beforehand.
-#[inline]
-fn model_encode(fields: &Fields) -> Outcome<5> {
-    let mut numbers = [GARBAGE; 5];
-    let verdict = starshackle::encode_fields(fields, &mut numbers);
-    Outcome { verdict, numbers }
 }

@@ -9,7 +9,7 @@ impl Random {
     }
 
     #[inline]
-    pub fn next(&mut self) -> u64 {
+    pub fn number(&mut self) -> u64 {
         self.0 ^= self.0 >> 12;
         self.0 ^= self.0 << 25;
         self.0 ^= self.0 >> 27;
@@ -18,7 +18,7 @@ impl Random {
 
     /// A number below `limit`, which is small.
     pub fn below(&mut self, limit: usize) -> usize {
-        (self.next() >> 32) as usize % limit
+        (self.number() >> 32) as usize % limit
     }
 
     pub fn pick<T: Copy>(&mut self, values: &[T]) -> T {
@@ -32,7 +32,7 @@ impl Random {
     pub fn bytes(&mut self, length: usize) -> Vec<u8> {
         let mut bytes = vec![0; length];
         for part in bytes.chunks_mut(8) {
-            part.copy_from_slice(&self.next().to_le_bytes()[..part.len()]);
+            part.copy_from_slice(&self.number().to_le_bytes()[..part.len()]);
         }
         bytes
     }

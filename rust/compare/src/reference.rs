@@ -40,6 +40,12 @@ pub struct Reference {
     layouts: Vec<Layout>,
 }
 
+impl Default for Reference {
+    fn default() -> Reference {
+        Reference::new()
+    }
+}
+
 impl Reference {
     pub fn new() -> Reference {
         let mut allowed = [[0; 256]; 4];

@@ -21,6 +21,15 @@ const SYNTAX: &[&str] = &[
 ];
 
 /// The text of a store that [`crate::decode`] has answered; none for a class not in the list.
+///
+/// ```
+/// use starshackle::{assembly, decode};
+///
+/// let store = decode(0xA16F_6000)?;
+/// let text = "st1d { z0.d, z8.d }, pn8, [x0, #-2, mul vl]";
+/// assert_eq!(assembly::text(&store).as_deref(), Some(text));
+/// # Ok::<(), starshackle::Refusal>(())
+/// ```
 pub fn text(store: &Store) -> Option<String> {
     let line = usize::try_from(store.class).ok()?.checked_sub(1)?;
     let syntax = with_option(SYNTAX.get(line)?, store);

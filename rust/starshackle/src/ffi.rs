@@ -1,6 +1,7 @@
 //! The C interface of the proved library, made safe.
 //!
-//! Nothing checks these declarations against the library's source: keep them equal by hand.
+//! Nothing proves that these declarations are those of the library's source. `tests/python` compares
+//! the texts.
 
 use crate::run::{Machine, Window};
 use crate::{Answer, Fields};
@@ -11,6 +12,12 @@ extern "C" {
 }
 
 /// Decodes a word into `fields`, all of which are written, and returns the verdict's number.
+///
+/// ```
+/// let mut fields = [0; 8];
+/// assert_eq!(starshackle::decode_fields(0xA16F_6000, &mut fields), 0);
+/// assert_eq!(fields, [10, 0, 0, 0, 0, 0, -2i64 as u64, 0]);
+/// ```
 pub fn decode_fields(word: u32, fields: &mut Fields) -> u64 {
     // SAFETY: the library writes the eight entries and keeps no pointer.
     unsafe { starshackle_decode(word, fields) }
@@ -18,6 +25,12 @@ pub fn decode_fields(word: u32, fields: &mut Fields) -> u64 {
 
 /// Encodes a store into `answer`, all of which is written, and returns the verdict's number.
 /// The last entry is the word, the others are 0.
+///
+/// ```
+/// let mut answer = [0; 5];
+/// assert_eq!(starshackle::encode_fields(&[10, 0, 0, 0, 0, 0, 2, 0], &mut answer), 0);
+/// assert_eq!(answer, [0, 0, 0, 0, 0xA161_6000]);
+/// ```
 pub fn encode_fields(fields: &Fields, answer: &mut Answer) -> u64 {
     // SAFETY: the library reads eight entries, writes five and keeps no pointer.
     unsafe { starshackle_encode(fields, answer) }
@@ -38,6 +51,12 @@ extern "C" {
 /// Judges whether bytes are a patch, writes all of `answer` and returns the verdict's number. The
 /// entries: in a refusal, how many runs were whole and acceptable, and where they end; for a patch,
 /// its runs and payload bytes in the third and fourth place; 0 elsewhere.
+///
+/// ```
+/// let mut answer = [0; 5];
+/// assert_eq!(starshackle::judge_numbers(b"PE\0\0", &mut answer), 0);
+/// assert_eq!(starshackle::judge_numbers(b"PE", &mut answer), 9);
+/// ```
 pub fn judge_numbers(patch: &[u8], answer: &mut Answer) -> u64 {
     // SAFETY: the library reads the patch within its length, writes the five entries and keeps no
     // pointer.
@@ -46,6 +65,13 @@ pub fn judge_numbers(patch: &[u8], answer: &mut Answer) -> u64 {
 
 /// Applies a patch to the window of `memory` from `base` on, writes all of `answer` and returns the
 /// verdict's number. The entries: the run of the detail, its address, runs, payload bytes, 0.
+///
+/// ```
+/// let patch = b"PR\x05\x10\0\0\0\0\0\0\x01\0\xA4PE\x01\0"; // A4 at 1005h
+/// let (mut memory, mut answer) = ([0; 8], [0; 5]);
+/// assert_eq!(starshackle::apply_numbers(0x1000, &mut memory, patch, &mut answer), 0);
+/// assert_eq!(answer, [0, 0, 1, 1, 0]);
+/// ```
 pub fn apply_numbers(base: u64, memory: &mut [u8], patch: &[u8], answer: &mut Answer) -> u64 {
     let (memory_len, patch_len) = (memory.len(), patch.len());
     let (memory, patch) = (memory.as_mut_ptr(), patch.as_ptr());
@@ -87,6 +113,15 @@ extern "C" {
 
 /// Runs a word's store over the window, writes all of `answer` and returns the verdict's number.
 /// The entries: the element of the detail, its address, active elements, bytes, 0.
+///
+/// ```
+/// use starshackle::{run_numbers, Machine, Window};
+///
+/// let window = Window { base: 0, memory: &mut [] };
+/// let mut answer = [1; 5];
+/// assert_eq!(run_numbers(&Machine::default(), window, 0, &mut answer), 1); // VB is 0
+/// assert_eq!(answer, [0; 5]);
+/// ```
 pub fn run_numbers(machine: &Machine, window: Window, word: u32, answer: &mut Answer) -> u64 {
     let Machine { vb, flags, ref x, sp, z, p } = *machine;
     let Window { base, memory } = window;
@@ -105,6 +140,16 @@ pub fn run_numbers(machine: &Machine, window: Window, word: u32, answer: &mut An
 /// Tells what an element of a word's store is, writes all of `answer` and returns the verdict's
 /// number. The entries: whether it is active, its address, the place of its first byte in the Z
 /// buffer, its bytes, and how many elements the store has.
+///
+/// ```
+/// use starshackle::{element_numbers, Machine};
+///
+/// let (z, p) = ([0; 32 * 16], [0; 2 * 16]);
+/// let machine = Machine { vb: 16, z: &z, p: &p, ..Machine::default() };
+/// let mut answer = [0; 5];
+/// assert_eq!(element_numbers(&machine, 0xA160_6000, 3, &mut answer), 0);
+/// assert_eq!(answer, [0, 24, 8 * 16 + 8, 8, 4]);
+/// ```
 pub fn element_numbers(machine: &Machine, word: u32, number: u64, answer: &mut Answer) -> u64 {
     let Machine { vb, ref x, sp, z, p, .. } = *machine;
     let (z_len, p_len) = (z.len(), p.len());
@@ -136,6 +181,16 @@ extern "C" {
 /// be there, writes all of `answer` and returns the verdict's number. The entries: the element of
 /// the detail, its address, active elements, bytes moved, the patch's length. Where it is done, the
 /// patch stands in the first bytes of `patch`; other bytes stay as they were.
+///
+/// ```
+/// use starshackle::{make_patch_numbers, Flags, Machine};
+///
+/// let (z, p) = ([0; 32 * 16], [0; 2 * 16]);
+/// let machine = Machine { vb: 16, flags: Flags::SVE, z: &z, p: &p, ..Machine::default() };
+/// let (mut patch, mut answer) = ([0; 4], [0; 5]);
+/// assert_eq!(make_patch_numbers(&machine, 0, 0, 0xE442_8001, &mut patch, &mut answer), 0);
+/// assert_eq!((&patch, answer), (b"PE\0\0", [0, 0, 0, 0, 4]));
+/// ```
 pub fn make_patch_numbers(
     machine: &Machine,
     base: u64,

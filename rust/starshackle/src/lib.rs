@@ -1,9 +1,55 @@
 //! Arm's predicated vector stores: the proved model, from Rust.
 //!
-//! The model is the static library that `rt staticlib starshackle` makes. This crate adds types
-//! to its numbers and nothing else; what is proved is said of the library.
+//! The model is the static library that `rt staticlib starshackle` makes, and what is proved is
+//! said of it. This crate gives its numbers types and adds nothing else; no `unsafe` is needed to
+//! use it. A call answers what it did, or a [`Refusal`] with document 01's number and name. A
+//! refused call has written nothing.
+//!
+//! | call | what it answers |
+//! |---|---|
+//! | [`decode`], [`encode`] | the store that a word names, and the word that names a store |
+//! | [`run()`] | what a store does to a window of memory |
+//! | [`element`], [`elements`] | what one element of a store is, and how many there are |
+//! | [`make_patch`], [`Patch::of_store`] | a store's net effect as a string of bytes |
+//! | [`judge`], [`Patch::read`] | whether bytes are such a string |
+//! | [`apply`], [`Patch::apply`] | what a patch does to a window of memory |
+//!
+//! # Document 01's whole example
+//!
+//! Four bytes are scattered over a window of eight. Two go to one address, where the later stays.
+//! Applying the store's patch leaves what running the store leaves.
+//!
+//! ```
+//! use starshackle::{run, Flags, Machine, Patch, Ran, Window};
+//!
+//! const VB: usize = 16; // vectors of 16 bytes: four elements of 32 bits
+//! const WORD: u32 = 0xE442_8001; // st1b { z1.s }, p0, [x0, z2.s, uxtw]
+//!
+//! // A vector register is VB bytes of a buffer, lowest first.
+//! let vector = |elements: [u32; 4]| elements.map(u32::to_le_bytes).concat();
+//! let mut z = [0; 32 * VB];
+//! z[VB..2 * VB].copy_from_slice(&vector([0xA1, 0xA2, 0xA3, 0xA4])); // z1: the bytes
+//! z[2 * VB..3 * VB].copy_from_slice(&vector([0, 1, 1, 5])); // z2: the offsets
+//! let p = [0xFF; 2 * VB]; // every element is active
+//! let mut x = [0; 31];
+//! x[0] = 0x1000; // the base
+//! let machine = Machine { vb: VB, flags: Flags::SVE, x, sp: 0, z: &z, p: &p };
+//!
+//! let mut memory = [0; 8];
+//! let window = Window { base: 0x1000, memory: &mut memory };
+//! assert_eq!(run(&machine, window, WORD), Ok(Ran { elements: 4, bytes: 4 }));
+//! assert_eq!(memory, [0xA1, 0xA3, 0, 0, 0, 0xA4, 0, 0]);
+//!
+//! let patch = Patch::of_store(&machine, 0x1000, 8, WORD)?;
+//! assert_eq!(patch.as_bytes().len(), 31);
+//! let mut patched = [0; 8];
+//! patch.apply(Window { base: 0x1000, memory: &mut patched })?;
+//! assert_eq!(patched, memory);
+//! # Ok::<(), starshackle::Refusal>(())
+//! ```
 
 #![deny(unsafe_code)]
+#![warn(missing_docs)]
 
 pub mod assembly;
 #[allow(unsafe_code)]
@@ -11,9 +57,16 @@ mod ffi;
 pub mod make;
 pub mod patch;
 pub mod run;
+mod store;
+mod verdict;
 
 pub use ffi::{apply_numbers, decode_fields, encode_fields, judge_numbers};
 pub use ffi::{element_numbers, make_patch_numbers, run_numbers};
+pub use make::{make_patch, Made};
+pub use patch::{apply, judge, Applied, Judged, NoPatch, Patch};
+pub use run::{element, elements, run, Element, Flags, Machine, Ran, Window};
+pub use store::{decode, encode, Extension, Store};
+pub use verdict::{Refusal, Verdict};
 
 /// A decoded store as numbers: class, index, extension, predicate, base, register, multiple, 0.
 pub type Fields = [u64; 8];
@@ -24,111 +77,11 @@ pub type Answer = [u64; 5];
 /// The entry of an encoder's [`Answer`] that holds the word.
 pub const WORD: usize = 4;
 
-/// How a 32-bit offset becomes a 64-bit one.
-#[derive(Clone, Copy, Debug, PartialEq, Eq)]
-pub enum Extension {
-    Uxtw,
-    Sxtw,
-}
+/// No store's patch is longer, in bytes: a buffer for [`make_patch`] with room for all.
+pub const LARGEST_STORE_PATCH: usize = 1_040;
 
-/// A store as its word names it. A field that the class lacks is 0.
-#[derive(Clone, Copy, Debug, Default, PartialEq, Eq)]
-pub struct Store {
-    /// The class, numbered from 1.
-    pub class: u64,
-    /// Zm, or Rm.
-    pub index: u64,
-    /// The offsets' extension, in the classes that have one.
-    pub extension: Option<Extension>,
-    /// Pg, or the counter's register less 8.
-    pub predicate: u64,
-    /// Rn, or Zn where the base is a vector.
-    pub base: u64,
-    /// Zt, or the first register of a strided store.
-    pub register: u64,
-    /// The immediate, in vectors.
-    pub multiple: i64,
-}
+/// No patch is longer, in bytes.
+pub const LARGEST_PATCH: usize = 1_796;
 
-/// A verdict other than done, by its number.
-#[derive(Clone, Copy, Debug, PartialEq, Eq)]
-pub struct Refusal(pub u64);
-
-/// The store that a word names; [`Refusal`] 4 when it is of no class.
-pub fn decode(word: u32) -> Result<Store, Refusal> {
-    let mut fields = [0; 8];
-    match decode_fields(word, &mut fields) {
-        0 => Ok(Store::from(fields)),
-        verdict => Err(Refusal(verdict)),
-    }
-}
-
-/// The word that names a store; [`Refusal`] 11 when there is none.
-pub fn encode(store: Store) -> Result<u32, Refusal> {
-    let mut answer = [0; 5];
-    match encode_fields(&Fields::from(store), &mut answer) {
-        0 => Ok(u32::try_from(answer[WORD]).expect("a word has 32 bits")),
-        verdict => Err(Refusal(verdict)),
-    }
-}
-
-impl From<Fields> for Store {
-    fn from(fields: Fields) -> Store {
-        let [class, index, extension, predicate, base, register, multiple, _] = fields;
-        let extension = match extension {
-            1 => Some(Extension::Uxtw),
-            2 => Some(Extension::Sxtw),
-            _ => None,
-        };
-        let multiple = multiple as i64; // two's complement
-        Store { class, index, extension, predicate, base, register, multiple }
-    }
-}
-
-impl From<Store> for Fields {
-    fn from(store: Store) -> Fields {
-        let Store { class, index, extension, predicate, base, register, multiple } = store;
-        let extension = match extension {
-            None => 0,
-            Some(Extension::Uxtw) => 1,
-            Some(Extension::Sxtw) => 2,
-        };
-        let multiple = multiple as u64; // two's complement
-        [class, index, extension, predicate, base, register, multiple, 0]
-    }
-}
-
-#[cfg(test)]
-mod tests {
-    use super::*;
-
-    const STRIDED: Store = Store {
-        class: 10,
-        index: 0,
-        extension: None,
-        predicate: 0,
-        base: 0,
-        register: 0,
-        multiple: -2,
-    };
-
-    #[test]
-    fn a_strided_store() {
-        assert_eq!(decode(0xA16F_6000), Ok(STRIDED));
-        assert_eq!(encode(STRIDED), Ok(0xA16F_6000));
-    }
-
-    #[test]
-    fn a_scatter_store() {
-        let store = decode(0xE5A0_C3E0).unwrap();
-        assert_eq!((store.class, store.base), (1, 31));
-        assert_eq!(store.extension, Some(Extension::Sxtw));
-        assert_eq!(encode(store), Ok(0xE5A0_C3E0));
-    }
-
-    #[test]
-    fn refusals() {
-        assert_eq!(decode(0xE420_8000), Err(Refusal(4)));
-        assert_eq!(encode(Store { multiple: 1, ..STRIDED }), Err(Refusal(11)));
-    }
-}
+/// No window is longer, in bytes.
+pub const LARGEST_WINDOW: usize = 65_536;

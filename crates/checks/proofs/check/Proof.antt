@@ -75,10 +75,14 @@ check-store-requires c κs =
     let g = a .args in
     let d = c .before .before .before .before .before .before .before in
     let l = d .before .length-ok in
+    let w = c .before .before .before .before .before .window-ok in
     let s = c .before .store .given in (
       decoded-accepted (g .word) (s .0 .0) (a .fits .word .fits) (sym (c .before .before .before .decode .ensures) ∙ s .1),
-      sound (g .flags) (m a) (g .base) (g .length) (g .word) (l .result) (l .ensures)
-          (d .if1 .left) (c .before .before .before .before .before .before .if2 .left),
+      (
+        sound (g .flags) (m a) (g .base) (g .length) (g .word) (l .result) (l .ensures)
+            (d .if1 .left) (c .before .before .before .before .before .before .if2 .left),
+        sym (w .ensures) ∙ not-false (w .result) (c .before .before .before .before .if3 .left),
+      ),
     )
 
 enum-told : tie.Need-enum-told

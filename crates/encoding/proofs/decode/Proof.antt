@@ -1,5 +1,4 @@
 -- The store of the class found, by its feature. Assumes nothing.
-use mathlib.Core.Path.{_≡_}
 use native.Mathlib.Omega.{arith}
 use Rattle.encoding.specs.Classes.{classes, SVE, SME2, SVE2p1}
 use Rattle.encoding.proofs.Reading.{featured, undefined, defined}
@@ -14,44 +13,44 @@ returns : tie.Need-returns
 unfolding classes
 returns c = undefined (c .before .before .args .word) (c .before .index-of .result) (c .before .index-of .ensures) (c .if1 .taken)
 
-layout-of-requires : tie.Need-layout-of-requires
-layout-of-requires c κs = search needs
+feature-at-requires : tie.Need-feature-at-requires
+feature-at-requires c κs = search needs
 
 scatter-requires : tie.Need-scatter-requires
 scatter-requires c κs =
-    let i = c .before .before .before .before .index-of .result in
-    let l = c .before .before .layout-of in
-    (c .before .before .before .if1 .left, featured i (l .result) SVE (l .ensures .0) (c .if2 .taken))
+    let i = c .before .before .before .index-of .result in
+    let f = c .before .feature-at in
+    (c .before .before .if1 .left, featured i (f .result) SVE (f .ensures .0) (c .if2 .taken))
 
 returns-2 : tie.Need-returns-2
 unfolding classes
 returns-2 c =
-    let i = c .before .before .before .before .before .index-of in
-    defined (c .before .before .before .before .before .before .args .word) (i .result) (i .ensures) (c .before .before .before .before .if1 .left) _ (c .scatter .ensures)
+    let i = c .before .before .before .before .index-of in
+    defined (c .before .before .before .before .before .args .word) (i .result) (i .ensures) (c .before .before .before .if1 .left) _ (c .scatter .ensures)
 
 strided-requires : tie.Need-strided-requires
 strided-requires c κs =
-    let i = c .before .before .before .before .before .before .index-of .result in
-    let l = c .before .before .before .before .layout-of in
-    (c .before .before .before .before .before .if1 .left, featured i (l .result) SME2 (l .ensures .0) (c .if3 .taken))
+    let i = c .before .before .before .before .index-of .result in
+    let f = c .before .before .feature-at in
+    (c .before .before .before .if1 .left, featured i (f .result) SME2 (f .ensures .0) (c .if3 .taken))
 
 returns-3 : tie.Need-returns-3
 unfolding classes
 returns-3 c =
-    let i = c .before .before .before .before .before .before .before .index-of in
-    defined (c .before .before .before .before .before .before .before .before .args .word) (i .result) (i .ensures) (c .before .before .before .before .before .before .if1 .left) _ (c .strided .ensures)
+    let i = c .before .before .before .before .before .index-of in
+    defined (c .before .before .before .before .before .before .args .word) (i .result) (i .ensures) (c .before .before .before .before .if1 .left) _ (c .strided .ensures)
 
 quadword-requires : tie.Need-quadword-requires
 quadword-requires c κs =
-    let i = c .before .before .before .before .before .before .index-of .result in
-    let l = c .before .before .before .before .layout-of in
-    (c .before .before .before .before .before .if1 .left, featured i (l .result) SVE2p1 (l .ensures .0) (omega (arith, l .ensures .1 .feature)))
+    let i = c .before .before .before .before .index-of .result in
+    let f = c .before .before .feature-at in
+    (c .before .before .before .if1 .left, featured i (f .result) SVE2p1 (f .ensures .0) (omega (arith, f .ensures .1)))
 
 returns-4 : tie.Need-returns-4
 unfolding classes
 returns-4 c =
-    let i = c .before .before .before .before .before .before .before .index-of in
-    defined (c .before .before .before .before .before .before .before .before .args .word) (i .result) (i .ensures) (c .before .before .before .before .before .before .if1 .left) _ (c .quadword .ensures)
+    let i = c .before .before .before .before .before .index-of in
+    defined (c .before .before .before .before .before .before .args .word) (i .result) (i .ensures) (c .before .before .before .before .if1 .left) _ (c .quadword .ensures)
 
 pub decode-spec : {M : Type 1} → statement M
 decode-spec =
@@ -59,7 +58,7 @@ decode-spec =
     (tie.spec
     index-of-requires
     returns
-    layout-of-requires
+    feature-at-requires
     scatter-requires
     returns-2
     strided-requires

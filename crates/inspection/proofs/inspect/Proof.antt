@@ -1,9 +1,12 @@
 -- The refusals in their order. Assumes nothing.
-use mathlib.Core.Path.{_≡_, sym, _∙_}
+use mathlib.Core.Path.{_≡_, refl, sym, _∙_}
 use mathlib.Core.Bool.{false, not}
 use native.Mathlib.Omega.{arith}
 use borrow.Author.Tests.{not-false}
-use Rattle.encoding.proofs.Statements.{decoded-accepted}
+use Rattle.encoding.specs.Classes.{classes, classAt}
+use Rattle.encoding.specs.Decoding.{storeOf, decodeOf}
+use Rattle.encoding.proofs.Reading.{undefined, defined}
+use Rattle.encoding.proofs.Statements.{known-accepted}
 use Rattle.encoding.specs.declared.Decoded.the-variants.{Known, Undefined}
 use Rattle.elements.specs.Machine.{Machine, machine}
 use Rattle.checks.proofs.Concluding.{Vb, length-sound}
@@ -47,37 +50,38 @@ returns-3 c =
     let k = c .before .before .before .length-ok in
     inspected-p (m a) (a .args .word) (a .args .e) (k .result) (k .ensures) (c .before .before .if1 .left) (c .before .if2 .left) (c .if3 .taken)
 
-decode-requires : tie.Need-decode-requires
-decode-requires c κs = search needs
+-- the word's store is that of the class found
+known : (c : tie.Else4) → let a = c .before .before .before .before .before .before .before .before .args in let k = c .before .index-of .result in Known (storeOf (classAt k) (a .word)) ≡ decodeOf (a .word)
+unfolding classes
+known c =
+    let i = c .before .index-of in
+    defined (c .before .before .before .before .before .before .before .before .args .word) (i .result) (i .ensures) (c .if4 .left) _ refl
 
-enum-known-s : tie.Need-enum-known-s
-enum-known-s c = search needs
-
-inspect-store-requires : tie.Need-inspect-store-requires
-inspect-store-requires c κs =
-    let a = c .before .before .before .before .before .before .before .before .before .before in
-    let g = c .before .s .given in
-    let v = sound (c .before .before .before .before .before .before .before) (c .before .before .before .before .before .before .if1 .left) in (
-      decoded-accepted (a .args .word) (g .0 .0) (a .fits .word .fits) (sym (c .before .before .before .decode .ensures) ∙ g .1),
-      record { low = v .low; high = v .high; sixteen = v .sixteen; long-z = c .before .before .before .before .before .if2 .left; long-p = c .before .before .before .before .if3 .left },
-    )
-
-enum-told : tie.Need-enum-told
-enum-told c = search needs
+index-of-requires : tie.Need-index-of-requires
+index-of-requires c κs = search needs
 
 returns-4 : tie.Need-returns-4
+unfolding classes
 returns-4 c =
-    let a = c .before .before .before .before .before .before .before .before .before .before .before in
-    let k = c .before .before .before .before .before .before .before .before .length-ok in
-    let g = c .before .before .s .given in
-    c .inspect-store .ensures
-    ∙ inspected-decoded (m a) (a .args .word) (a .args .e) (k .result) (k .ensures) (c .before .before .before .before .before .before .before .if1 .left) (c .before .before .before .before .before .before .if2 .left) (c .before .before .before .before .before .if3 .left) (Known (g .0 .0)) (sym (g .1) ∙ c .before .before .before .before .decode .ensures)
+    let a = c .before .before .before .before .before .before .before .before in
+    let k = c .before .before .before .before .before .length-ok in
+    let i = c .before .index-of in
+    inspected-decoded (m a) (a .args .word) (a .args .e) (k .result) (k .ensures) (c .before .before .before .before .if1 .left) (c .before .before .before .if2 .left) (c .before .before .if3 .left) Undefined (undefined (a .args .word) (i .result) (i .ensures) (c .if4 .taken))
+
+inspect-at-requires : tie.Need-inspect-at-requires
+inspect-at-requires c κs =
+    let a = c .before .before .before .before .before .before .before .before in
+    let v = sound (c .before .before .before .before .before) (c .before .before .before .before .if1 .left) in (
+      (c .if4 .left, known-accepted (a .args .word) _ (sym (known c))),
+      record { low = v .low; high = v .high; sixteen = v .sixteen; long-z = c .before .before .before .if2 .left; long-p = c .before .before .if3 .left },
+    )
 
 returns-5 : tie.Need-returns-5
 returns-5 c =
     let a = c .before .before .before .before .before .before .before .before .before in
     let k = c .before .before .before .before .before .before .length-ok in
-    inspected-decoded (m a) (a .args .word) (a .args .e) (k .result) (k .ensures) (c .before .before .before .before .before .if1 .left) (c .before .before .before .before .if2 .left) (c .before .before .before .if3 .left) Undefined (sym (c .enum-told .given .1) ∙ c .before .before .decode .ensures)
+    c .inspect-at .ensures
+    ∙ inspected-decoded (m a) (a .args .word) (a .args .e) (k .result) (k .ensures) (c .before .before .before .before .before .if1 .left) (c .before .before .before .before .if2 .left) (c .before .before .before .if3 .left) (Known _) (known (c .before))
 
 pub inspect-spec : {M : Type 1} → statement M
 inspect-spec =
@@ -89,9 +93,7 @@ inspect-spec =
     returns-2
     mul-if3
     returns-3
-    decode-requires
-    enum-known-s
-    inspect-store-requires
-    enum-told
+    index-of-requires
     returns-4
+    inspect-at-requires
     returns-5)

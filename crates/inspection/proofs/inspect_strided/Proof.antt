@@ -2,6 +2,7 @@
 use mathlib.Core.Path.{refl}
 use Prim.Native.Nat.{_+_, _*_, _/_, _%_, _≤_, _<_}
 use native.Mathlib.Omega.{arith}
+use borrow.Author.Needs.{needs}
 use Rattle.checks.proofs.Spans.{strided-below, place-in, register-below, register-fits, strided-few}
 use Rattle.inspection.proofs.Inspecting.{strided-past, strided-found}
 use Rattle.inspection.proofs.inspect_strided.Statement.{statement}
@@ -33,9 +34,7 @@ add-register : tie.Need-add-register
 add-register c = omega (arith, its-register (c .before .before .before .before .before) (c .before .before .before .if1 .left))
 
 strided-active-requires : tie.Need-strided-active-requires
-strided-active-requires c κs =
-    let a = c .before .before .before .before .before in
-    ((a .pre .shift, a .pre .counted), (strided-below (a .args .s) (a .args .vb) (a .pre) (a .args .e) (c .before .before .before .if1 .left), a .pre .four))
+strided-active-requires c κs = search needs
 
 strided-address-requires : tie.Need-strided-address-requires
 strided-address-requires c κs = let a = c .before .before .before .before .before .before in strided-below (a .args .s) (a .args .vb) (a .pre) (a .args .e) (c .before .before .before .before .if1 .left)

@@ -1,183 +1,158 @@
--- From the gathered intervals to the patch. Assumes nothing.
+-- One run, or none. Assumes nothing.
 use mathlib.Core.List.{List}
-use mathlib.Core.Path.{_≡_, refl, sym, _∙_}
-use Prim.Native.Nat.{ℕ, _+_, _*_, _^_, _≤_}
+use mathlib.Core.Path.{_≡_, refl, sym, ap, _∙_, subst}
+use Prim.Native.Nat.{ℕ, _+_, _-_, _*_, _^_, _≤_, _<_}
 use native.Mathlib.Omega.{arith}
 use lib.ListN.{length}
-use Rattle.writes.specs.Elements.{Element}
+use Rattle.writes.specs.LittleEndian.{Bytes}
+use Rattle.writes.specs.Elements.{Element, over, netEffect}
+use Rattle.writes.specs.Encoding.{encode}
 use Rattle.writes.proofs.LittleEndian.{bytes-at}
+use Rattle.writes.proofs.Parts.{part-over}
 use Rattle.writes.proofs.Windows.{window-inv}
-use Rattle.intervals.specs.Intervals.{Fits}
-use Rattle.elements.specs.Plans.{stridedActive, stridedAddress, stridedElements}
-use Rattle.making.specs.Steps.{EachInside, Gathered}
-use Rattle.making.proofs.Plans.{strided-128, strided-inside, strided-fits}
-use Rattle.making.proofs.Finishing.{no-room, composed, made-of}
+use Rattle.composing.specs.Composing.{headBytes}
+use Rattle.elements.specs.Plans.{stridedAddress, stridedBytes, stridedElements}
+use Rattle.elements.proofs.Moving.{all-small, active-long}
+use Rattle.elements.proofs.Joined.{strided-none, strided-count, strided-place, strided-net, strided-bytes, strided-some}
+use Rattle.checks.proofs.Spans.{strided-below}
+use Rattle.making.specs.Steps.{MadeOf}
+use Rattle.making.proofs.Single.{short-of, room-of, oneRun, encode-one, one-long, one-put}
+use borrow.Author.Needs.{needs}
 use Rattle.making.proofs.make_strided.Statement.{statement}
 use Rattle.making.proofs.make_strided.Tie as tie
 
 abbrev es : tie.Start → List Element
 es a = stridedElements (a .args .s) (a .args .vb) (a .args .z .now)
 
-inside : (a : tie.Start)
-    → EachInside (stridedActive (a .args .s)) (stridedAddress (a .args .s)) (a .args .s .size) (a .args .s .nreg * a .args .s .per)
-    (a .args .base) (a .args .room)
-inside a =
-    strided-inside (a .args .s) (a .args .vb) (a .pre .0) (a .args .z .now) (a .pre .1 .0) (a .args .base) (a .args .room) (a .pre .1 .1 .1)
+make-empty-requires : tie.Need-make-empty-requires
+make-empty-requires c κs = search needs
 
-slice-aggregate-gather-strided : tie.Need-slice-aggregate-gather-strided
-slice-aggregate-gather-strided c = refl
-
-slice-aggregate-gather-strided-2 : tie.Need-slice-aggregate-gather-strided-2
-slice-aggregate-gather-strided-2 c = refl
-
-gather-strided-requires : tie.Need-gather-strided-requires
-gather-strided-requires c κs =
-    let a = c .before .before .before .before in
-    let few = strided-128 (a .args .s) (a .args .vb) (a .pre .0) in
-    (a .pre .0, ((few, few, window-inv (a .args .base) (a .args .room) (a .pre .1 .1 .0) .0), inside a))
-
--- ---- after gathering: the intervals
-
-abbrev At : Type 0
-At = tie.After-gather-strided
-
-abbrev st : At → tie.Start
-st k = k .before .before .before .before .before
-
-abbrev A : At → List ℕ
-A k = k .gather-strided .last .1 .1 .1 .1 .0
-
-abbrev N : At → List ℕ
-N k = k .gather-strided .last .1 .1 .1 .1 .1 .0
-
-abbrev n : At → ℕ
-n k = k .gather-strided .result
-
-long-A : (k : At) → 128 ≡ length (A k)
-long-A k = sym (k .gather-strided .kept .1 .1 .1 .1 .0)
-
-long-N : (k : At) → 128 ≡ length (N k)
-long-N k = sym (k .gather-strided .kept .1 .1 .1 .1 .1 .0)
-
-gathered : (k : At) → Gathered (st k .args .base) (st k .args .room) (es (st k)) (A k) (N k) (n k)
-gathered k = k .gather-strided .ensures (st k .args .z .now) (st k .pre .1 .0)
-
-top : (k : At) → st k .args .base + st k .args .room ≤ 2 ^ 64
-top k = window-inv (st k .args .base) (st k .args .room) (st k .pre .1 .1 .0) .1
-
-fits : (k : At) → Fits (st k .args .base) (st k .args .room) (es (st k))
-fits k =
-    let a = st k in
-    strided-fits (a .args .s) (a .args .vb) (a .pre .0) (a .args .z .now) (a .pre .1 .0) (a .args .base) (a .args .room) (a .pre .1 .1 .1)
-    (bytes-at (a .args .z .now) (λ i. k .before .before .before .before .shared-slice-known .given i .fits))
-
-slice-aggregate-size-up : tie.Need-slice-aggregate-size-up
-slice-aggregate-size-up c = long-A (c .before .before .before)
-
-slice-aggregate-size-up-2 : tie.Need-slice-aggregate-size-up-2
-slice-aggregate-size-up-2 c = long-N (c .before .before .before .before)
-
-slice-aggregate-size-up-3 : tie.Need-slice-aggregate-size-up-3
-slice-aggregate-size-up-3 c = refl
-
-size-up-requires : tie.Need-size-up-requires
-size-up-requires c κs =
-    let k = c .before .before .before .before .before in
-    (gathered k .held, omega (arith, gathered k .held .in-starts, long-A k))
-
--- ---- after sizing up: the places
-
-abbrev P : tie.After-size-up → List ℕ
-P s = s .size-up .last .1 .1 .1 .1 .0
-
-long-P : (s : tie.After-size-up) → 128 ≡ length (P s)
-long-P s = sym (s .size-up .kept .1 .1 .1 .1 .0)
+same-length : tie.Need-same-length
+same-length c = search needs
 
 returns : tie.Need-returns
 returns c =
-    let s = c .before .before in
-    let k = s .before .before .before .before .before .before in
-    no-room (st k .args .base) (st k .args .room) (es (st k)) (top k) (fits k) (A k) (N k) (P s) (n k) (s .size-up .result) (gathered k)
-    (s .size-up .ensures) (st k .args .s .size) (st k .args .patch .now) (omega (arith, c .if1 .taken))
+    let a = c .before .before .before .before .before .before .before in
+    let k = c .before .before .make-empty in
+    subst (λ (l : List Element). MadeOf l (a .args .s .size) (a .args .patch .now) (k .result) (k .last .0))
+    (sym (strided-none (a .args .s) (a .args .vb) (a .pre .0) (a .args .z .now) (a .pre .1 .0) (omega (arith, c .before .before .before .before .if1 .taken)))) (k .ensures (a .args .s .size))
 
-slice-aggregate-put-heads : tie.Need-slice-aggregate-put-heads
-slice-aggregate-put-heads c = long-A (c .before .before .before .before .before .before .before .before .before)
+-- ---- some are active
 
-slice-aggregate-put-heads-2 : tie.Need-slice-aggregate-put-heads-2
-slice-aggregate-put-heads-2 c = long-N (c .before .before .before .before .before .before .before .before .before .before)
+abbrev At : Type 0
+At = tie.Else1
 
-put-heads-requires : tie.Need-put-heads-requires
-put-heads-requires c κs =
-    let s = c .before .before .before .before .before in
-    let k = s .before .before .before .before .before .before in
-    (gathered k .held, top k, omega (arith, s .size-up .ensures .size, c .before .before .before .if1 .left))
+abbrev st : At → tie.Start
+st c = c .before .before .before
 
-slice-aggregate-lay-strided : tie.Need-slice-aggregate-lay-strided
-slice-aggregate-lay-strided c =
-    long-A (c .before .before .before .before .before .before .before .before .before .before .before .before .before .before .before)
+abbrev n : At → ℕ
+n c = (st c .args .s .high - st c .args .s .low) * st c .args .s .size
 
-slice-aggregate-lay-strided-2 : tie.Need-slice-aggregate-lay-strided-2
-slice-aggregate-lay-strided-2 c =
-    long-N (c .before .before .before .before .before .before .before .before .before .before .before .before .before .before .before .before)
+-- the run's start and bytes
+abbrev start : At → ℕ
+start c = stridedAddress (st c .args .s) (st c .args .s .low)
 
-slice-aggregate-lay-strided-3 : tie.Need-slice-aggregate-lay-strided-3
-slice-aggregate-lay-strided-3 c = long-P (c .before .before .before .before .before .before .before .before .before .before .before)
+abbrev bytes : At → List ℕ
+bytes c = stridedBytes (st c .args .s) (st c .args .vb) (st c .args .z .now)
 
-lay-strided-requires : tie.Need-lay-strided-requires
-lay-strided-requires c κs =
-    let s = c .before .before .before .before .before .before .before .before .before .before .before .before in
-    let k = s .before .before .before .before .before .before in
-    let a = st k in
-    let h = c .before .before .before .before .before .before .put-heads in (
-      a .pre .0,
-      (
-        a .pre .1 .0,
-        (
-          inside a,
-          composed (a .args .base) (a .args .room) (es a) (top k) (fits k) (A k) (N k) (P s) (n k) (s .size-up .result) (gathered k)
-              (s .size-up .ensures) (h .last .1 .1 .1 .1 .1 .0)
-              (omega (arith, h .kept .1 .1 .1 .1 .1 .0, c .before .before .before .before .before .before .before .before .before .before .if1 .left)),
-        ),
-      ),
-    )
+long : (c : At) → length (bytes c) ≡ n c
+long c = let a = st c in active-long (a .args .s) (a .args .vb) (a .pre .0) (a .args .z .now) (a .pre .1 .0)
 
-same-length : tie.Need-same-length
-same-length c =
-    c .before .before .lay-strided .kept .1 .1 .1 .1 .1 .1 .1 .1 .1 .0
-    ∙ c .before .before .before .before .before .before .before .before .before .put-heads .kept .1 .1 .1 .1 .1 .0
+small : (c : At) → n c ≤ 1024 * 256
+small c = let a = st c in all-small (a .args .s) (a .args .vb) (a .pre .0)
+
+encoded : (c : At) → encode (netEffect (es (st c))) ≡ oneRun (start c) (bytes c)
+encoded c =
+    let a = st c in
+    let w = window-inv (a .args .base) (a .args .room) (a .pre .1 .1 .0) in
+    let b : Bytes (a .args .z .now) = bytes-at (a .args .z .now) (λ i. c .before .before .shared-slice-known .given i .fits) in
+    let p = strided-place (a .args .s) (a .args .vb) (a .pre .0) (a .args .z .now) (a .pre .1 .0) (a .args .base) (a .args .room) (w .0) (w .1) (a .pre .1 .1 .1) (c .if1 .left) in
+    ap encode (strided-net (a .args .s) (a .args .vb) (a .pre .0) (a .args .z .now) (a .pre .1 .0) (a .args .base) (a .args .room) (w .0) (w .1) (a .pre .1 .1 .1) (c .if1 .left) b)
+    ∙ encode-one (start c) (bytes c) (strided-some (a .args .s) (a .args .vb) (a .pre .0) (a .args .z .now) (a .pre .1 .0) (c .if1 .left)) (omega (arith, p .1, long c, w .1)) (strided-bytes (a .args .s) (a .args .vb) (a .pre .0) (a .args .z .now) (a .pre .1 .0) b)
+
+sub-bytes : tie.Need-sub-bytes
+sub-bytes c = search needs
+
+mul-bytes : tie.Need-mul-bytes
+mul-bytes c = omega (arith, small (c .before))
+
+add-length : tie.Need-add-length
+add-length c = omega (arith, small (c .before))
 
 returns-2 : tie.Need-returns-2
 returns-2 c =
-    let s = c .before .before .before .before .before .before .before .before .before .before .before .before .before .before .before in
-    let k = s .before .before .before .before .before .before in
+    let k = c .before .before in
     let a = st k in
-    let h = c .before .before .before .before .before .before .before .before .before .put-heads in
-    let l = c .before .before .lay-strided in
-    made-of (a .args .base) (a .args .room) (es a) (top k) (fits k) (A k) (N k) (P s) (n k) (s .size-up .result) (gathered k)
-    (s .size-up .ensures) (a .args .s .size) (l .result .elements) (l .result .bytes) (a .args .patch .now)
-    (h .last .1 .1 .1 .1 .1 .0) (l .last .1 .1 .1 .1 .1 .1 .1 .1 .1 .0)
-    (bytes-at (a .args .patch .now) (λ i. k .before .before .before .slice-known .given i .fits))
-    (omega (arith, c .before .before .before .before .before .before .before .before .before .before .before .before .before .if1 .left))
-    (h .ensures) (l .ensures .1 .1) (l .ensures .0) (l .ensures .1 .0)
+    short-of (es a) (a .args .s .size) (oneRun (start k) (bytes k)) (encoded k) (a .args .patch .now)
+    (omega (arith, one-long (start k) (bytes k), long k, c .if2 .taken))
+
+strided-address-requires : tie.Need-strided-address-requires
+strided-address-requires c κs =
+    let k = c .before .before in
+    let a = st k in
+    strided-below (a .args .s) (a .args .vb) (a .pre .0) (a .args .s .low) (omega (arith, a .pre .0 .most, k .if1 .left))
+
+put-head-requires : tie.Need-put-head-requires
+put-head-requires c κs = search needs
+
+add-to : tie.Need-add-to
+add-to c = search needs
+
+sub-copy-active : tie.Need-sub-copy-active
+sub-copy-active c = search needs
+
+part-copy-active-start : tie.Need-part-copy-active-start
+part-copy-active-start c = search needs
+
+part-copy-active-end : tie.Need-part-copy-active-end
+part-copy-active-end c = search needs
+
+copy-active-requires : tie.Need-copy-active-requires
+copy-active-requires c κs = search needs
+
+put-trailer-requires : tie.Need-put-trailer-requires
+put-trailer-requires c κs = search needs
+
+same-length-2 : tie.Need-same-length-2
+same-length-2 c = search needs
+
+returns-3 : tie.Need-returns-3
+returns-3 c =
+    let k = c .before .before .before .before .before .before .before .before .before .before .before .before .before .before .before in
+    let a = st k in
+    let d = c .before .before .before .before .before .before .before .before .before .before .before .before .strided-address in
+    let h = c .before .before .before .before .before .before .before .before .before .before .put-head in
+    let m = c .before .before .before .before .before .before .copy-active in
+    let t = c .before .before .put-trailer in
+    let count = strided-count (a .args .s) (a .args .vb) (a .pre .0) (a .args .z .now) (a .pre .1 .0) in
+    room-of (es a) (a .args .s .size) (oneRun (start k) (bytes k)) (encoded k) (a .args .patch .now) (m .result .elements) (m .result .bytes)
+    (n k + 16) (t .last .0) (sym (one-long (start k) (bytes k) ∙ ap (λ (i : ℕ). i + 16) (long k)))
+    (omega (arith, c .before .before .before .before .before .before .before .before .before .before .before .before .before .if2 .left))
+    (m .ensures .0 ∙ sym count)
+    (m .ensures .1 .0 ∙ sym (ap (λ (i : ℕ). i * a .args .s .size) count))
+    (one-put (start k) (bytes k) (n k) (a .args .patch .now) (h .last .0) _ (t .last .0) (long k)
+    (omega (arith, c .before .before .before .before .before .before .before .before .before .before .before .before .before .if2 .left))
+    (h .ensures ∙ ap (λ (x : ℕ). over (a .args .patch .now) 0 (headBytes x (n k))) (d .ensures))
+    (part-over (h .last .0) 12 (n k) (m .last .1 .1 .1 .0) (bytes k) (long k) (m .ensures .1 .1)) (t .ensures))
 
 pub make-strided-spec : {M : Type 1} → statement M
 make-strided-spec =
     tie.close
     (tie.spec
-    slice-aggregate-gather-strided
-    slice-aggregate-gather-strided-2
-    gather-strided-requires
-    slice-aggregate-size-up
-    slice-aggregate-size-up-2
-    slice-aggregate-size-up-3
-    size-up-requires
-    returns
-    slice-aggregate-put-heads
-    slice-aggregate-put-heads-2
-    put-heads-requires
-    slice-aggregate-lay-strided
-    slice-aggregate-lay-strided-2
-    slice-aggregate-lay-strided-3
-    lay-strided-requires
+    make-empty-requires
     same-length
-    returns-2)
+    returns
+    sub-bytes
+    mul-bytes
+    add-length
+    returns-2
+    strided-address-requires
+    put-head-requires
+    add-to
+    sub-copy-active
+    part-copy-active-start
+    part-copy-active-end
+    copy-active-requires
+    put-trailer-requires
+    same-length-2
+    returns-3)

@@ -8,7 +8,7 @@ use borrow.Author.Tests.{not-true, not-false}
 use Rattle.writes.specs.Elements.{Element, InWindow}
 use Rattle.writes.proofs.LittleEndian.{bytes-at, bytes-take, bytes-drop}
 use Rattle.writes.proofs.Windows.{window-inv}
-use Rattle.intervals.specs.Intervals.{Interval, Fits}
+use Rattle.composing.specs.Intervals.{Interval, Fits}
 use Rattle.ordering.specs.Keys.{entries, sorted, Distinct}
 use Rattle.composing.specs.Composing.{heads, laid}
 use Rattle.keyed.specs.Keyed.{runsOf, Ordered, Numbered}

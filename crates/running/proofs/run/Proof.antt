@@ -59,7 +59,7 @@ run-strided-requires : tie.Need-run-strided-requires
 run-strided-requires c κs =
     let p = c .before .before .plan2 .given in
     let t = strided (c .before .before .before .before) (p .0 .0) (p .1) in
-    (t .0, (t .1 .registers .long-z, t .1 .inside))
+    (t .0, (t .1 .registers .long-z, (t .1 .window, t .1 .inside)))
 
 returns : tie.Need-returns
 returns c =

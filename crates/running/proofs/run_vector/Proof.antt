@@ -47,20 +47,20 @@ write-vector-requires : tie.Need-write-vector-requires
 write-vector-requires c κs =
     let k = c .before in
     let a = st k in
-    let g = a .args in (
-      a .pre .0,
-      (
-        (
+    let g = a .args in
+    record {
+      sound = a .pre .0;
+      long-offsets =
           ap length (k .before .before .register-of .ensures)
-              ∙ z-long (g .vb) (g .z .now) (g .p .now) (a .pre .1 .0) (g .v .offsets) (a .pre .0 .offsets),
+          ∙ z-long (g .vb) (g .z .now) (g .p .now) (a .pre .1 .0) (g .v .offsets) (a .pre .0 .offsets);
+      long-governing =
           ap length (k .before .register-of2 .ensures)
-              ∙ p-long (g .vb) (g .z .now) (g .p .now) (a .pre .1 .0) (g .v .governing) (a .pre .0 .governing),
+          ∙ p-long (g .vb) (g .z .now) (g .p .now) (a .pre .1 .0) (g .v .governing) (a .pre .0 .governing);
+      long-stored =
           ap length (k .register-of3 .ensures)
-              ∙ z-long (g .vb) (g .z .now) (g .p .now) (a .pre .1 .0) (g .v .stored) (a .pre .0 .stored),
-        ),
-        subst (InWindow (g .base) (length (g .memory .now))) (sym (named k)) (a .pre .1 .1),
-      ),
-    )
+          ∙ z-long (g .vb) (g .z .now) (g .p .now) (a .pre .1 .0) (g .v .stored) (a .pre .0 .stored);
+      inside = subst (InWindow (g .base) (length (g .memory .now))) (sym (named k)) (a .pre .1 .1);
+    }
 
 same-length : tie.Need-same-length
 same-length c = search needs
@@ -70,8 +70,8 @@ returns c =
     let k = c .before .before .before .before in
     let g = st k .args in
     let w = c .before .before .write-vector .ensures in (
-      ap₂ Done (w .0 ∙ ap length (named k)) (w .1 .0 ∙ ap (λ (l : List Element). length l * g .v .size) (named k)),
-      w .1 .1 ∙ ap (written (g .base) (g .memory .now)) (named k),
+      ap₂ Done (w .elements ∙ ap length (named k)) (w .bytes ∙ ap (λ (l : List Element). length l * g .v .size) (named k)),
+      w .memory ∙ ap (written (g .base) (g .memory .now)) (named k),
     )
 
 pub run-vector-spec : {M : Type 1} → statement M

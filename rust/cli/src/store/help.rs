@@ -11,7 +11,8 @@ FILE is a text with lines NAME = VALUE. What isn't given is 0; # starts a commen
   vb = 16                      the vector length in bytes
   flags = sve streaming        those that are on: sve, sme2, sve2p1, streaming, fa64, sp-check,
                                sp-check-none-active
-  x0 = 0x1000, sp = 4096       x0 to x30, sp
+  x0 = 0x1000                  x0 to x30
+  sp = 4096                    the stack pointer
   z2.s = 0 1 -1 0x5            z0 to z31 by elements of a width (b, h, s, d, q), lowest first
   z2 = 00 11 22 33 ...         or by bytes
   p0.s = 1 0 1 1               p0 to p15 by the bits of a width's elements

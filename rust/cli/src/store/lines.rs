@@ -2,6 +2,7 @@
 
 use super::names::Name;
 use crate::command::Failure;
+use crate::quote::shown;
 
 /// A line with something in it.
 pub struct Line<'a> {
@@ -89,12 +90,4 @@ pub fn count(number: usize, thing: &str) -> String {
         1 => format!("1 {thing}"),
         _ => format!("{number} {thing}s"),
     }
-}
-
-/// A text as messages show it: quoted, not too long, and with no letter that a terminal obeys.
-fn shown(text: &str) -> String {
-    const MOST: usize = 40;
-    let start: String = text.chars().take(MOST).flat_map(char::escape_debug).collect();
-    let rest = if text.chars().count() > MOST { ".." } else { "" };
-    format!("'{start}{rest}'")
 }

@@ -10,8 +10,7 @@ use crate::command::Failure;
 use crate::{fields, input, numbers};
 use lines::{is, lines, Line};
 use names::Subject;
-use starshackle::run::{elements, Flags, Machine};
-use starshackle::{Refusal, Store};
+use starshackle::{elements, Flags, Machine, Refusal, Store, LARGEST_WINDOW};
 
 /// What such a file is, for messages.
 pub const EXPECTED: &str = "a text that describes a store";
@@ -46,17 +45,15 @@ impl Registers {
 
     /// Registers of 0. For a length that the model refuses there are none.
     fn zero(vb: usize) -> Registers {
-        let empty = Machine { vb, flags: Flags(0), x: [0; 31], sp: 0, z: &[], p: &[] };
-        let length = if elements(&empty, 0) == Err(BAD_LENGTH) { 0 } else { vb };
+        let empty = Machine { vb, ..Machine::default() };
+        let length = if elements(&empty, 0) == Err(Refusal::Length) { 0 } else { vb };
         let (z, p) = (vec![0; 32 * length], vec![0; 2 * length]);
-        Registers { vb, flags: Flags(0), x: [0; 31], sp: 0, z, p }
+        Registers { vb, flags: Flags::default(), x: [0; 31], sp: 0, z, p }
     }
 }
 
-const BAD_LENGTH: Refusal = Refusal(1);
-
 /// The model refuses this window and longer ones, so that no longer one has to be lent.
-const LONGEST: u64 = 65_537;
+const LONGEST: u64 = LARGEST_WINDOW as u64 + 1;
 
 /// The flags by name.
 const FLAGS: &[(&str, Flags)] = &[
@@ -72,7 +69,7 @@ const FLAGS: &[(&str, Flags)] = &[
 pub fn read(path: &str) -> Result<Described, Failure> {
     let text = input::text(path, EXPECTED)?;
     let lines = lines(path, &text)?;
-    let word = word(path, &lines)?;
+    let word = word(&lines)?.ok_or_else(|| no_word(path, &text))?;
     let registers = registers(&lines)?;
     let base = number(&lines, Subject::Window)?.unwrap_or(0);
     let (length, memory) = window(&lines)?;
@@ -85,15 +82,21 @@ fn find<'a, 'b>(lines: &'a [Line<'b>], subject: Subject) -> Option<&'a Line<'b>>
 
 /// The number in the line about something, if there is one.
 fn number(lines: &[Line], subject: Subject) -> Result<Option<u64>, Failure> {
-    let expected = "a number of 64 bits, decimal or 0x hexadecimal";
-    find(lines, subject).map(|line| line.read(numbers::number, expected)).transpose()
+    find(lines, subject).map(|line| line.read(numbers::number, numbers::EXPECTED)).transpose()
 }
 
-/// The given word, or that of the given fields.
-fn word(path: &str, lines: &[Line]) -> Result<Result<u32, Refusal>, Failure> {
+/// What is wrong with a file that has come to its end.
+fn no_word(path: &str, text: &str) -> Failure {
+    let last = text.lines().count().max(1);
+    let expected = "a line word = WORD, or class = N and other fields";
+    Failure::File(format!("{path}:{last}: the end, and no word; expected {expected}"))
+}
+
+/// The given word, or that of the given fields, if any are given.
+fn word(lines: &[Line]) -> Result<Option<Result<u32, Refusal>>, Failure> {
     if let Some(line) = find(lines, Subject::Word) {
         let expected = "a word of 32 bits, such as 0xA16F6000";
-        return Ok(Ok(line.read(word_number, expected)?));
+        return Ok(Some(Ok(line.read(word_number, expected)?)));
     }
     let (mut store, mut given) = (Store::default(), Vec::new());
     for line in lines {
@@ -103,19 +106,19 @@ fn word(path: &str, lines: &[Line]) -> Result<Result<u32, Refusal>, Failure> {
             given.push((line, field));
         }
     }
-    if given.is_empty() {
-        return Err(Failure::File(format!("{path}: no word; expected a line word = WORD")));
-    }
-    for (line, field) in given {
+    for (line, field) in &given {
         fields::of_class(store.class, field).map_err(|usage| line.problem(&usage.0))?;
     }
-    Ok(starshackle::encode(store))
+    Ok((!given.is_empty()).then(|| starshackle::encode(store)))
 }
 
-/// A number, or a word as `starshackle decode` shows it.
+/// A number, or a word with a letter in it, as `starshackle decode` shows it.
 fn word_number(text: &str) -> Option<u32> {
-    let shown = numbers::word(text).filter(|word| numbers::hexadecimal(*word).len() == text.len());
-    shown.or_else(|| u32::try_from(numbers::number(text)?).ok())
+    let shown = |word: &u32| numbers::hexadecimal(*word).len() == text.len();
+    match numbers::number(text) {
+        Some(number) => u32::try_from(number).ok(),
+        None => numbers::word(text).filter(shown),
+    }
 }
 
 fn registers(lines: &[Line]) -> Result<Registers, Failure> {
@@ -154,7 +157,8 @@ fn flags(line: &Line) -> Result<Flags, Failure> {
     let mut flags = Flags::default();
     for name in line.value.split_whitespace() {
         let flag = FLAGS.iter().find(|(other, _)| other.eq_ignore_ascii_case(name));
-        let expected = || crate::arguments::one_of(FLAGS.iter().map(|(name, _)| *name));
+        let names = || crate::arguments::one_of(FLAGS.iter().map(|(name, _)| *name));
+        let expected = || format!("names with spaces between them: {}", names());
         flags |= flag.ok_or_else(|| line.unexpected(&is(name), &expected()))?.1;
     }
     Ok(flags)

@@ -8,6 +8,9 @@ use crate::numbers;
 /// Stands behind a last value that is repeated to the end.
 const REPEAT: &str = "...";
 
+/// What stands between values, for messages.
+const SPACES: &str = ", with spaces between them";
+
 /// Values in a row. The last is repeated if the row goes on.
 pub struct Row<T> {
     values: Vec<T>,
@@ -50,7 +53,7 @@ pub fn vector(line: &Line, length: usize) -> Result<Vec<u8>, Failure> {
     let bits = 8 * bytes as u32;
     let elements = length / bytes;
     let expected =
-        count(elements, "number") + &format!(" of {bits} bits, decimal or 0x hexadecimal");
+        count(elements, "number") + &format!(" of {bits} bits, decimal or 0x hexadecimal{SPACES}");
     let elements = row(line, |text| numbers::of_bits(text, bits), elements, &expected)?;
     Ok(elements.iter().flat_map(|element| element.to_le_bytes().into_iter().take(bytes)).collect())
 }
@@ -62,7 +65,8 @@ pub fn predicate(line: &Line, length: usize) -> Result<Vec<u8>, Failure> {
         None => return whole(line, length),
     };
     let elements = 8 * length / bytes;
-    let elements = row(line, bit, elements, &(count(elements, "bit") + ", each 0 or 1"))?;
+    let expected = count(elements, "bit") + ", each 0 or 1" + SPACES;
+    let elements = row(line, bit, elements, &expected)?;
     let mut register = vec![0; length];
     for (element, bit) in elements.into_iter().enumerate() {
         let place = element * bytes;

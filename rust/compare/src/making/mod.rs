@@ -1,12 +1,9 @@
 //! Making stores' patches compared with an independent implementation, on random stores; and what
 //! making, applying and running have to do with one another.
 
-pub mod bench;
 #[cfg(test)]
 mod cases;
-mod hand;
-mod independent;
-mod map;
+pub mod independent;
 mod shapes;
 mod tally;
 #[cfg(test)]
@@ -35,7 +32,7 @@ const MARGIN: usize = 64;
 const NOISE: usize = 8192;
 
 /// A function that makes patches: machine, window's address and length, word, buffer, answer.
-type Make = dyn Fn(&Machine, u64, u64, u32, &mut [u8], &mut Answer) -> u64 + Sync;
+pub type Make = dyn Fn(&Machine, u64, u64, u32, &mut [u8], &mut Answer) -> u64 + Sync;
 
 /// Compares the model on so many stores, which have to hit everything that is counted.
 pub fn run(report: &Report, stores: u64, threads: usize) {
@@ -47,7 +44,8 @@ pub fn one(report: &Report, number: u64) {
     Comparison::new(report, &starshackle::make_patch_numbers).store(number);
 }
 
-fn compare(report: &Report, make: &Make, stores: u64, threads: usize) -> Tally {
+/// Compares an implementation on so many stores.
+pub fn compare(report: &Report, make: &Make, stores: u64, threads: usize) -> Tally {
     let work = |first| {
         let mut comparison = Comparison::new(report, make);
         for number in (first..stores).step_by(threads) {
@@ -96,7 +94,7 @@ impl<'a> Comparison<'a> {
 
     fn store(&mut self, number: u64) {
         // Others than the input's numbers, and the same in every run.
-        let mut random = Random::new(Random::new(number).next());
+        let mut random = Random::new(Random::new(number).number());
         let Case { input, length } = shapes::case(&mut random, number);
         let subject = Subject::new(number, &input, length);
         self.buffers(&mut random, &subject);

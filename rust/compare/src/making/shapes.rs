@@ -35,7 +35,7 @@ fn other_length(random: &mut Random, length: u64) -> u64 {
         3 => length | 1 << (17 + random.below(47)),
         4 => length.wrapping_neg(),
         5 => u64::MAX - random.below(2) as u64,
-        6 => random.next(),
+        6 => random.number(),
         _ => random.below(LONGEST) as u64,
     }
 }
@@ -87,7 +87,7 @@ fn unit(class: &Class) -> usize {
 
 /// Fills the data's register with few different bytes.
 fn alike(random: &mut Random, input: &mut Input) {
-    let byte = random.next() as u8;
+    let byte = random.number() as u8;
     let from = ZT.of(input.word) * input.vb;
     for one in &mut input.z[from..from + input.vb] {
         *one = byte ^ u8::from(random.one_in(8));

@@ -1,11 +1,10 @@
 //! The comparison finds wrong implementations: each is the independent one with a mistake in it.
 
 use super::independent::{make, Made, NO_ROOM};
-use super::{compare, hand, map, Make};
+use super::{compare, Make};
 use crate::reference::{Outcome, DONE};
 use crate::report::Report;
 use crate::running::arm::FAULT;
-use crate::running::classes::class_of;
 use crate::running::input::Input;
 use starshackle::run::Machine;
 use starshackle::Answer;
@@ -169,23 +168,6 @@ fn a_right_one() {
     let report = Report::default();
     compare(&report, &*with_patch(|made| string(&runs(&set(&pieces(made)), touching))), 2_000, 2);
     assert_eq!(report.differences(), 0);
-}
-
-/// The benchmark's implementations, with words of other classes left to the independent one.
-#[test]
-fn others_that_are_right() {
-    let others: [Box<Make>; 2] = [Box::new(hand::make), Box::new(map::make)];
-    for other in others {
-        let right = right();
-        let make: Box<Make> = Box::new(move |machine, base, length, word, buffer, answer| {
-            let own = matches!(class_of(word), None | Some(3 | 5 | 8));
-            let make = if own { &other } else { &right };
-            make(machine, base, length, word, buffer, answer)
-        });
-        let report = Report::default();
-        compare(&report, &*make, 20_000, 2);
-        assert_eq!(report.differences(), 0);
-    }
 }
 
 #[test]

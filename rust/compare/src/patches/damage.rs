@@ -53,7 +53,7 @@ pub fn empty(random: &mut Random, runs: &mut Vec<Run>) {
         1 => behind.wrapping_add(1),
         2 => next,
         3 => next.wrapping_sub(1),
-        _ => random.next(),
+        _ => random.number(),
     };
     runs.insert(number, Run { start, bytes: Vec::new() });
 }
@@ -68,7 +68,7 @@ pub fn too_many_bytes(random: &mut Random, runs: &mut Vec<Run>) {
     *runs = long(random, MOST_BYTES + over);
     if random.one_in(2) {
         let bytes = random.bytes(MOST_BYTES + over);
-        *runs = vec![Run { start: random.next() >> 1, bytes }];
+        *runs = vec![Run { start: random.number() >> 1, bytes }];
     }
 }
 
@@ -184,7 +184,7 @@ pub fn other_mark(random: &mut Random, runs: &[Run], string: &mut [u8]) {
         false => (RUN_MARK, TRAILER_MARK),
     };
     let [first, second] = right;
-    let any = random.next() as u8 | 0x80;
+    let any = random.number() as u8 | 0x80;
     let marks =
         [other, [second, first], [first, any], [any, second], [0, 0], [first | 0x20, second]];
     string[place(runs, number)..][..2].copy_from_slice(&random.pick(&marks));

@@ -78,7 +78,7 @@ fn start(random: &mut Random, place: Place, span: u64) -> u64 {
         (_, 1) => highest - near.min(highest),
         (_, 2) => (1 << random.below(64)) - near.min(1),
         (_, 3) => 0x1000 + near,
-        _ => random.next(),
+        _ => random.number(),
     };
     start.min(highest)
 }

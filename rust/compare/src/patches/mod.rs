@@ -1,12 +1,11 @@
 //! Judging and applying patches compared with an independent reader, on random strings.
 
-pub mod bench;
 mod damage;
-mod generate;
-mod kinds;
+pub mod generate;
+pub mod kinds;
 pub mod reader;
 mod tally;
-mod windows;
+pub mod windows;
 
 use crate::random::Random;
 use crate::reference::Outcome;

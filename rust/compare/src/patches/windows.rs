@@ -57,13 +57,13 @@ pub const KINDS: &[Kind] = &[
         length: 2 + random.below(200),
     }),
     kind("of length 0", &[0, 9, 10], |random, runs| {
-        let bases = [0, low(runs) as u64, high(runs) as u64, u64::MAX, random.next()];
+        let bases = [0, low(runs) as u64, high(runs) as u64, u64::MAX, random.number()];
         Window { base: random.pick(&bases), length: 0 }
     }),
     kind("of length 65,536", &[0, 9, 10], |random, runs| sized(random, runs, LONGEST)),
     kind("of length 65,537", &[3], |random, runs| sized(random, runs, LONGEST + 1)),
     kind("anywhere", &[0, 3, 9, 10], |random, _| Window {
-        base: random.next() | random.pick(&[0, !255]),
+        base: random.number() | random.pick(&[0, !255]),
         length: random.below(256),
     }),
 ];

@@ -83,7 +83,7 @@ fn beside(random: &mut Random, window: &Window, size: usize) -> u64 {
     let end = window.base.wrapping_add(window.length as u64);
     let near = (random.below(2 * size + 2) as u64).wrapping_sub(size as u64 + 1);
     match random.below(8) {
-        0 => random.next(),
+        0 => random.number(),
         1 => window.base ^ 1 << random.below(64),
         2..=4 => window.base.wrapping_add(near),
         _ => end.wrapping_add(near),
@@ -113,7 +113,7 @@ fn scatter(
     input: &mut Input,
 ) {
     let narrow = offset == 32;
-    let any = random.next() >> random.pick(&[0, 0, 32, 33, 60]);
+    let any = random.number() >> random.pick(&[0, 0, 32, 33, 60]);
     let distance = match (narrow, XS.of(input.word)) {
         (false, _) => any,
         (true, 0) => u64::from(any as u32),
@@ -122,7 +122,7 @@ fn scatter(
     let first = targets[random.below(targets.len())];
     let base = set_base(random, first.wrapping_sub(distance << scale), input);
     for (e, target) in targets.iter().enumerate() {
-        let dropped = if narrow { 0 } else { (random.next() as u128) << (64 - scale) };
+        let dropped = if narrow { 0 } else { (random.number() as u128) << (64 - scale) };
         let offset = (target.wrapping_sub(base) as i64 >> scale) as u64 ^ dropped as u64;
         let bytes = offset.to_le_bytes();
         let kept = if narrow { &bytes[..4] } else { &bytes[..] };
@@ -163,8 +163,8 @@ fn counter_value(random: &mut Random, border: usize, inverted: bool) -> u16 {
     let each = 8 >> lowest;
     let count = (border * each).saturating_sub(random.below(each)) as u16;
     match random.below(16) {
-        0 => random.next() as u16 & 0x7FF0 | top,
-        1 => random.next() as u16,
+        0 => random.number() as u16 & 0x7FF0 | top,
+        1 => random.number() as u16,
         _ => (count << 1 | 1) << lowest & 0x7FFF | top,
     }
 }

@@ -16,8 +16,8 @@ pub fn input(number: u64) -> Input {
     let mut input = Input {
         vb,
         flags: flags(&mut random, class),
-        x: [(); 31].map(|()| random.next()),
-        sp: random.next(),
+        x: [(); 31].map(|()| random.number()),
+        sp: random.number(),
         z: random.bytes(32 * vb),
         p: random.bytes(2 * vb),
         base: window.base,
@@ -33,7 +33,7 @@ pub fn input(number: u64) -> Input {
 
 /// A word of the class; registers are often number 31.
 fn word(random: &mut Random, class: &Class) -> u32 {
-    let mut word = class.base | random.next() as u32 & class.free();
+    let mut word = class.base | random.number() as u32 & class.free();
     for field in [BASE, INDEX] {
         if random.one_in(4) {
             word |= field.mask() & class.free();
@@ -44,7 +44,7 @@ fn word(random: &mut Random, class: &Class) -> u32 {
 
 /// A word that differs from the class's by some fixed bits, or any word.
 pub fn other_word(random: &mut Random, class: &Class, word: u32) -> u32 {
-    let any = random.next() as u32;
+    let any = random.number() as u32;
     match random.below(4) {
         0 => any,
         1 => word ^ any & 0x0000_600C & !class.free(),
@@ -54,7 +54,7 @@ pub fn other_word(random: &mut Random, class: &Class, word: u32) -> u32 {
 
 /// Flags under which stores of the class are defined and legal, all others at random.
 fn flags(random: &mut Random, class: &Class) -> u64 {
-    let mut flags = random.next();
+    let mut flags = random.number();
     if random.one_in(2) {
         flags &= 0x7F;
     }
@@ -99,7 +99,7 @@ pub fn base(random: &mut Random, length: usize) -> u64 {
         4 => highest - near,
         5 => (1 << random.below(64)) - near.min(1),
         6 => 0x1000 + near,
-        _ => random.next(),
+        _ => random.number(),
     };
     base.min(highest)
 }

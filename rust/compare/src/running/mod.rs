@@ -2,13 +2,11 @@
 
 pub mod aim;
 pub mod arm;
-pub mod bench;
 mod bits;
 #[cfg(test)]
 mod cases;
 pub mod classes;
 pub mod generate;
-pub mod hand;
 pub mod input;
 mod spoil;
 mod tally;

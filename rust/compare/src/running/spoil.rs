@@ -30,7 +30,7 @@ fn length(random: &mut Random, _: &Class, input: &mut Input) {
     input.vb = match random.below(8) {
         0 => random.pick(&LENGTHS) + (1 << 32),
         1 => usize::MAX,
-        2 => random.next() as usize | 1,
+        2 => random.number() as usize | 1,
         _ => random.pick(&NO_LENGTHS),
     };
     if input.vb <= 512 && random.one_in(2) {
@@ -90,5 +90,5 @@ fn illegal(_: &mut Random, class: &Class, input: &mut Input) {
 fn stack(random: &mut Random, _: &Class, input: &mut Input) {
     input.word |= BASE.mask();
     input.flags |= 1 << SP_CHECK;
-    input.sp = random.next() | 1 << random.below(4);
+    input.sp = random.number() | 1 << random.below(4);
 }

@@ -62,7 +62,7 @@ check-vector-requires : tie.Need-check-vector-requires
 check-vector-requires c κs =
     let a = c .before .before .before .before .before .before .before .before in
     let i = scatter-in (a .args .f) (a .pre .0) in
-    let s = scatter-sound (m a) (a .pre .1 .low) (a .pre .1 .high) (a .pre .1 .sixteen) (a .args .f) i in
+    let s = scatter-sound (m a) (a .pre .1 .0 .low) (a .pre .1 .0 .high) (a .pre .1 .0 .sixteen) (a .args .f) i in
     (subst (λ (v : VectorPlan). VectorSound v (a .args .vb)) (sym (c .before .scatter-plan .ensures)) s, a .pre .1)
 
 returns-3 : tie.Need-returns-3

@@ -61,8 +61,8 @@ check-strided-requires : tie.Need-check-strided-requires
 check-strided-requires c κs =
     let a = c .before .before .before .before .before .before .before .before in
     let i = strided-in (a .args .f) (a .pre .0) in
-    let s = strided-sound (m a) (a .pre .1 .low) (a .pre .1 .high) (a .pre .1 .sixteen) (a .args .f) i in
-    (subst (λ (v : StridedPlan). StridedSound v (a .args .vb)) (sym (c .before .strided-plan .ensures)) s, a .pre .1 .long-z)
+    let s = strided-sound (m a) (a .pre .1 .0 .low) (a .pre .1 .0 .high) (a .pre .1 .0 .sixteen) (a .args .f) i in
+    (subst (λ (v : StridedPlan). StridedSound v (a .args .vb)) (sym (c .before .strided-plan .ensures)) s, (a .pre .1 .0 .long-z, a .pre .1 .1))
 
 returns-3 : tie.Need-returns-3
 returns-3 c =
@@ -77,7 +77,7 @@ returns-3 c =
     (c .before .before .strided-plan .ensures)
     ∙ ap (λ (l : List Element). checkedBy (settled (g .flags) (g .sp) (eqb (g .f .rn) 31) (g .base) (g .room) (sizeOf n) l)
     (planOf (m a) (S.Strided (g .f))))
-    (sym (strided-elements (m a) (g .f)))
+    (sym (strided-elements (m a) (g .f) (strided-in (g .f) (a .pre .0))))
     ∙ answered a _ _
     (for-settled (g .flags) (m a) (g .base) (g .room) (S.Strided (g .f)) (o .result) (o .ensures SME2 refl)
     (c .before .before .before .before .before .if1 .left) (i .result) (i .ensures SME2 refl) (c .before .before .before .if2 .left))

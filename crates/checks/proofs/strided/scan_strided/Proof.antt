@@ -7,17 +7,18 @@ use lib.ListN.{length}
 use borrow.Author.Needs.{needs}
 use borrow.Author.Tests.{not-true, not-false}
 use Rattle.elements.specs.Plans.{stridedActive, stridedElement, stridedElements}
+use Rattle.checks.specs.Scanning.{scanOf}
 use Rattle.checks.specs.declared.Scan.the-variants.{Out}
-use Rattle.checks.proofs.Walking.{Scanned, scanned-first, scanned-off, scanned-in, scanned-out, scanned-done}
+use Rattle.checks.proofs.Walking.{Scanned, passed-first, passed-off, scanned-in, scanned-out, scanned-done}
 use Rattle.checks.proofs.Spans.{window, strided-below, strided-long, strided-few}
 use Rattle.checks.proofs.strided.scan_strided.Statement.{statement}
 use Rattle.checks.proofs.strided.scan_strided.Tie as tie
 
 abbrev Inv-loop : tie.InvT-loop
-Inv-loop s vb base room count size active₀ e₀ active e = (e ≤ s .nreg * s .per) × (active ≤ e) × ((z : List ℕ) → length z ≡ 32 * vb → Scanned (stridedActive s) (stridedElement s vb z) (s .nreg * s .per) base room active e)
+Inv-loop s vb base room count size e₀ e = (e ≤ s .nreg * s .per) × ((z : List ℕ) → length z ≡ 32 * vb → Scanned (stridedActive s) (stridedElement s vb z) (s .nreg * s .per) base room e)
 
 abbrev μ-loop : tie.MeasureT-loop
-μ-loop s vb base room count size active₀ e₀ active e = count - e
+μ-loop s vb base room count size e₀ e = count - e
 
 mul-count : tie.Need-mul-count Inv-loop μ-loop
 mul-count c = omega (arith, strided-few (c .before .args .s) (c .before .args .vb) (c .before .pre))
@@ -25,12 +26,10 @@ mul-count c = omega (arith, strided-few (c .before .args .s) (c .before .args .v
 loop-holds : tie.Need-loop-holds Inv-loop μ-loop
 loop-holds c =
     let a = c .before .args in
-    (omega arith, omega arith, λ z q. scanned-first (stridedActive (a .s)) (stridedElement (a .s) (a .vb) z) (a .s .nreg * a .s .per) (a .base) (a .room))
+    (omega arith, λ z q. passed-first (stridedActive (a .s)) (stridedElement (a .s) (a .vb) z) (a .s .nreg * a .s .per) (scanOf (a .base) (a .room)))
 
 strided-active-requires : tie.Need-strided-active-requires Inv-loop μ-loop
-strided-active-requires c κs =
-    let a = c .before .before .before in
-    ((a .pre .shift, a .pre .counted), (strided-below (a .args .s) (a .args .vb) (a .pre) (c .before .loop .e) (c .loop-test .taken), a .pre .four))
+strided-active-requires c κs = search needs
 
 add-e : tie.Need-add-e Inv-loop μ-loop
 add-e c = omega (arith, strided-few (c .before .before .before .before .before .args .s) (c .before .before .before .before .before .args .vb) (c .before .before .before .before .before .pre))
@@ -43,9 +42,8 @@ loop-again c =
     let a = c .before .before .before .before .before .args in
     let l = c .before .before .before .loop in (
       omega arith,
-      omega (arith, l .inv .1),
       λ z q.
-          scanned-off (stridedActive (a .s)) (stridedElement (a .s) (a .vb) z) (a .s .nreg * a .s .per) (a .base) (a .room) (l .active) (l .e) (c .before .before .loop-test .taken) (l .inv .2 z q)
+          passed-off (stridedActive (a .s)) (stridedElement (a .s) (a .vb) z) (a .s .nreg * a .s .per) (scanOf (a .base) (a .room)) (l .e) (c .before .before .loop-test .taken) (l .inv .1 z q)
           (sym (c .before .strided-active .ensures) ∙ not-true (c .before .strided-active .result) (c .if1 .taken)),
     )
 
@@ -63,13 +61,10 @@ returns c =
     let h = c .before .before .before .before .before .loop-test .taken in
     λ z q.
     ap (Out (l .e)) (c .before .before .strided-address .ensures)
-    ∙ scanned-out (stridedActive (a .args .s)) (stridedElement (a .args .s) (a .args .vb) z) (a .args .s .nreg * a .args .s .per) (a .args .base) (a .args .room) (l .active) (l .e) h (l .inv .2 z q)
+    ∙ scanned-out (stridedActive (a .args .s)) (stridedElement (a .args .s) (a .args .vb) z) (a .args .s .nreg * a .args .s .per) (a .args .base) (a .args .room) (l .e) h (l .inv .1 z q)
     (sym (c .before .before .before .before .strided-active .ensures) ∙ not-false (c .before .before .before .before .strided-active .result) (c .before .before .before .if1 .left))
     (window (a .args .base) (a .args .room) (c .before .before .strided-address .ensures) (strided-long (a .args .s) (a .args .vb) (a .pre) (l .e) h z q)
     ∙ sym (c .before .inside .ensures) ∙ not-true (c .before .inside .result) (c .if2 .taken))
-
-add-active : tie.Need-add-active Inv-loop μ-loop
-add-active c = omega (arith, strided-few (c .before .before .before .before .before .before .before .before .args .s) (c .before .before .before .before .before .before .before .before .args .vb) (c .before .before .before .before .before .before .before .before .pre), c .before .before .before .before .before .before .loop .inv .1)
 
 add-e-2 : tie.Need-add-e-2 Inv-loop μ-loop
 add-e-2 c = omega (arith, strided-few (c .before .before .before .before .before .before .before .before .args .s) (c .before .before .before .before .before .before .before .before .args .vb) (c .before .before .before .before .before .before .before .before .pre))
@@ -84,9 +79,8 @@ loop-again-2 c =
     let l = c .before .before .before .before .before .before .loop in
     let h = c .before .before .before .before .before .loop-test .taken in (
       omega arith,
-      omega (arith, l .inv .1),
       λ z q.
-          scanned-in (stridedActive (a .args .s)) (stridedElement (a .args .s) (a .args .vb) z) (a .args .s .nreg * a .args .s .per) (a .args .base) (a .args .room) (l .active) (l .e) h (l .inv .2 z q)
+          scanned-in (stridedActive (a .args .s)) (stridedElement (a .args .s) (a .args .vb) z) (a .args .s .nreg * a .args .s .per) (a .args .base) (a .args .room) (l .e) h (l .inv .1 z q)
           (sym (c .before .before .before .before .strided-active .ensures) ∙ not-false (c .before .before .before .before .strided-active .result) (c .before .before .before .if1 .left))
           (window (a .args .base) (a .args .room) (c .before .before .strided-address .ensures) (strided-long (a .args .s) (a .args .vb) (a .pre) (l .e) h z q)
           ∙ sym (c .before .inside .ensures) ∙ not-false (c .before .inside .result) (c .if2 .left)),
@@ -97,7 +91,7 @@ unfolding stridedElements
 returns-2 c =
     let a = c .before .before .before .args in
     let l = c .before .loop in
-    λ z q. scanned-done (stridedActive (a .s)) (stridedElement (a .s) (a .vb) z) (a .s .nreg * a .s .per) (a .base) (a .room) (l .active) (l .e) (c .loop-test .left) (l .inv .2 z q)
+    λ z q. scanned-done (stridedActive (a .s)) (stridedElement (a .s) (a .vb) z) (a .s .nreg * a .s .per) (a .base) (a .room) (l .e) (c .loop-test .left) (l .inv .1 z q)
 
 pub scan-strided-spec : {M : Type 1} → statement M
 scan-strided-spec =
@@ -114,7 +108,6 @@ scan-strided-spec =
     strided-address-requires
     inside-requires
     returns
-    add-active
     add-e-2
     loop-less-2
     loop-again-2

@@ -1,85 +1,84 @@
--- A class's numbers are the digits of its row. Assumes nothing.
-use mathlib.Core.Path.{_≡_, ap, _∙_}
-use Prim.Native.Nat.{ℕ, _/_, _%_, _<_}
-use lib.ListN.{length, getD}
-use Rattle.encoding.specs.Classes.{classes, classAt, any, has}
-use Rattle.encoding.specs.Layouts.{layoutOf}
+-- A class's numbers are the digits of its own. Assumes nothing.
+use mathlib.Core.Path.{_≡_}
+use Prim.Native.Nat.{_/_, _^_, _<_}
+use lib.ListN.{length}
+use Rattle.encoding.specs.Classes.{Rm, imm4, xs, classes, classAt, any, has, width}
+use Rattle.encoding.specs.Decoding.{ztOf}
+use Rattle.encoding.specs.Encoding.{lowest}
+use Rattle.encoding.specs.Layouts.{layoutOf, packedOf}
 use Rattle.encoding.specs.declared.Layout.{Layout}
-use Rattle.encoding.proofs.Rows.{column, column-at, packed, small-at}
-use Rattle.encoding.proofs.Reading.{digits, layout-bounded}
+use Rattle.encoding.proofs.Tests.{every}
+use Rattle.encoding.proofs.Rows.{digitsAre, digit-at, small-at}
+use Rattle.encoding.proofs.Reading.{layout-bounded}
 use borrow.Author.Needs.{needs}
 use Rattle.encoding.proofs.table.layout_of.Statement.{statement}
 use Rattle.encoding.proofs.table.layout_of.Tie as tie
 
-mul-row : tie.Need-mul-row
-mul-row c = search needs
+packed-requires : tie.Need-packed-requires
+packed-requires c κs = search needs
 
-array-read-row : tie.Need-array-read-row
-array-read-row c = search needs
+feature-at-requires : tie.Need-feature-at-requires
+feature-at-requires c κs = search needs
 
-cast-feature : tie.Need-cast-feature
-cast-feature c = search needs
+digit-requires : tie.Need-digit-requires
+digit-requires c κs = search needs
 
-cast-nreg : tie.Need-cast-nreg
-cast-nreg c = search needs
+power-requires : tie.Need-power-requires
+power-requires c κs = search needs
 
-cast-xs : tie.Need-cast-xs
-cast-xs c = search needs
+power-requires-2 : tie.Need-power-requires-2
+power-requires-2 c κs = search needs
 
-cast-rm : tie.Need-cast-rm
-cast-rm c = search needs
+power-requires-3 : tie.Need-power-requires-3
+power-requires-3 c κs = search needs
 
-cast-imm4 : tie.Need-cast-imm4
-cast-imm4 c = search needs
+power-requires-4 : tie.Need-power-requires-4
+power-requires-4 c κs = search needs
 
-cast-zt : tie.Need-cast-zt
-cast-zt c = search needs
+power-requires-5 : tie.Need-power-requires-5
+power-requires-5 c κs = search needs
 
-cast-step : tie.Need-cast-step
-cast-step c = search needs
+power-requires-6 : tie.Need-power-requires-6
+power-requires-6 c κs = search needs
 
-cast-size : tie.Need-cast-size
-cast-size c = search needs
-
-cast-scale : tie.Need-cast-scale
-cast-scale c = search needs
+digit-requires-2 : tie.Need-digit-requires-2
+digit-requires-2 c κs = search needs
 
 returns : tie.Need-returns
-unfolding classes column any has
+unfolding classes any has every lowest packedOf digitsAre
 returns c =
-    let k = c .args .k in
+    let k = c .before .before .before .before .before .before .before .before .before .before .args .k in
     let h : k < length classes = search needs in
-    let s = small-at k h in
-    let q : getD (column packed) k 0 ≡ packed (classAt k) = column-at packed 0 k h in
-    let d = digits (classAt k) s in
+    let n = c .before .before .before .before .before .before .before .before .before .packed in
+    let one = digit-at k h (n .result) (n .ensures) (λ n. n) in
+    let two = digit-at k h (n .result) (n .ensures) (λ n. 2 ^ n) in
     let e : _≡_ {A = Layout} _ (layoutOf (classAt k)) =
     λ i.
     record {
-      feature = (ap (λ (r : ℕ). r / 0x1000000000000 % 16) q ∙ d .feature) i;
-      nreg = (ap (λ (r : ℕ). r / 0x100000000000 % 16) q ∙ d .nreg) i;
-      xs = (ap (λ (r : ℕ). r / 0x10000000000 % 16) q ∙ d .xs) i;
-      rm = (ap (λ (r : ℕ). r / 0x100000000 % 256) q ∙ d .rm) i;
-      imm4 = (ap (λ (r : ℕ). r / 0x1000000 % 256) q ∙ d .imm4) i;
-      zt = (ap (λ (r : ℕ). r / 0x100000 % 16) q ∙ d .zt) i;
-      step = (ap (λ (r : ℕ). r / 0x1000 % 256) q ∙ d .step) i;
-      size = (ap (λ (r : ℕ). r / 16 % 256) q ∙ d .size) i;
-      scale = (ap (λ (r : ℕ). r % 16) q ∙ d .scale) i;
+      feature = c .before .before .before .before .before .before .before .before .feature-at .ensures .0 i;
+      nreg = one (λ c. c .nreg) 7 _ (c .before .before .before .before .before .before .before .digit .ensures .0) tt i;
+      xs = two (λ c. 2 ^ width c xs) 6 _ (c .before .before .before .before .before .before .power .ensures) tt i;
+      rm = two (λ c. 2 ^ width c Rm) 5 _ (c .before .before .before .before .before .power2 .ensures) tt i;
+      imm4 = two (λ c. 2 ^ width c imm4) 4 _ (c .before .before .before .before .power3 .ensures) tt i;
+      zt = two (λ c. 2 ^ width c (ztOf c)) 3 _ (c .before .before .before .power4 .ensures) tt i;
+      step = two (λ c. c .esize / 8) 2 _ (c .before .before .power5 .ensures) tt i;
+      size = two (λ c. c .msize / 8) 1 _ (c .before .power6 .ensures) tt i;
+      scale = one (λ c. c .scale) 0 _ (c .digit2 .ensures .0) tt i;
     } in
-    (e, layout-bounded (classAt k) _ e s)
+    (e, layout-bounded (classAt k) _ e (small-at k h))
 
 pub layout-of-spec : {M : Type 1} → statement M
 layout-of-spec =
     tie.close
     (tie.spec
-    mul-row
-    array-read-row
-    cast-feature
-    cast-nreg
-    cast-xs
-    cast-rm
-    cast-imm4
-    cast-zt
-    cast-step
-    cast-size
-    cast-scale
+    packed-requires
+    feature-at-requires
+    digit-requires
+    power-requires
+    power-requires-2
+    power-requires-3
+    power-requires-4
+    power-requires-5
+    power-requires-6
+    digit-requires-2
     returns)

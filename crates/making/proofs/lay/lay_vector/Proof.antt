@@ -9,10 +9,10 @@ use borrow.Author.Needs.{needs}
 use borrow.Author.Tests.{not-true, not-false}
 use Rattle.writes.specs.Elements.{Element, over}
 use Rattle.elements.specs.Plans.{vectorActive, vectorElement, vectorElements}
-use Rattle.intervals.specs.Intervals.{Interval}
+use Rattle.composing.specs.Intervals.{Interval}
 use Rattle.ordering.specs.Keys.{entries}
 use Rattle.composing.specs.Composing.{laid}
-use Rattle.composing.proofs.Reaching.{part-over}
+use Rattle.composing.proofs.Putting.{part-over}
 use Rattle.keyed.specs.Keyed.{runsOf}
 use Rattle.writes.proofs.Overlay.{length-over}
 use Rattle.writes.proofs.Parts.{part-is, part-length}

@@ -1,0 +1,34 @@
+-- By the counter's low four bits, and by bit 15. Assumes nothing.
+use native.Mathlib.Omega.{arith}
+use Rattle.elements.proofs.Ranges.{low-empty, low-up, low-down, high-empty, high-up, high-down}
+use borrow.Author.Needs.{needs}
+use Rattle.elements.proofs.range_of.Statement.{statement}
+use Rattle.elements.proofs.range_of.Tie as tie
+
+returns : tie.Need-returns
+returns c = let a = c .before .args in (low-empty (a .v) (a .n) (c .if1 .taken), high-empty (a .v) (a .n) (c .if1 .taken))
+
+lower-requires : tie.Need-lower-requires
+lower-requires c κs = search needs
+
+returns-2 : tie.Need-returns-2
+returns-2 c =
+    let a = c .before .before .before in
+    let l = c .lower in (
+      low-up (a .args .v) (a .args .n) (c .before .before .if1 .left) (c .before .if2 .taken),
+      high-up (a .args .v) (a .args .n) (c .before .before .if1 .left) (c .before .if2 .taken) (a .args .border) (a .pre) (l .result) (omega (arith, l .ensures)),
+    )
+
+lower-requires-2 : tie.Need-lower-requires-2
+lower-requires-2 c κs = search needs
+
+returns-3 : tie.Need-returns-3
+returns-3 c =
+    let a = c .before .before .before in
+    let l = c .lower2 in (
+      low-down (a .args .v) (a .args .n) (c .before .before .if1 .left) (c .before .if2 .left) (a .args .border) (a .pre) (l .result) (omega (arith, l .ensures)),
+      high-down (a .args .v) (a .args .n) (c .before .before .if1 .left) (c .before .if2 .left),
+    )
+
+pub range-of-spec : {M : Type 1} → statement M
+range-of-spec = tie.close (tie.spec returns lower-requires returns-2 lower-requires-2 returns-3)

@@ -1,0 +1,109 @@
+//! The sides agree: on the random stores and strings that the model is compared on, and on every case
+//! that is measured.
+
+use crate::cases::{groups, Outcome};
+use crate::sides::{Side, SIDES};
+use crate::table::agree;
+use compare::making::{self, Make};
+use compare::patches::{kinds, windows};
+use compare::random::Random;
+use compare::report::Report;
+use compare::running::classes::CLASSES;
+use compare::running::generate::{self, other_word};
+use compare::GARBAGE;
+use starshackle::run::Window;
+
+const STORES: u64 = 40_000;
+const STRINGS: u64 = 40_000;
+const WORDS: u64 = 2_000_000;
+
+/// Calls every side and compares the others with the model; tells what it answers.
+fn same(call: impl Fn(&Side) -> Outcome, input: impl Fn() -> String) -> Outcome {
+    let [model, others @ ..] = &SIDES;
+    let right = call(model);
+    for side in others {
+        let other = call(side);
+        let name = side.name;
+        assert!(other == right, "{name} differs: {:?} {:?}\n{}", other.0, other.1, input());
+    }
+    right
+}
+
+/// Counts a verdict.
+fn count(verdicts: &mut [u64; 12], verdict: u64) {
+    verdicts[verdict as usize] += 1;
+}
+
+#[test]
+fn running() {
+    let mut verdicts = [0; 12];
+    for input in (0..STORES).map(generate::input) {
+        let run = |side: &Side| {
+            let (mut answer, mut memory) = ([GARBAGE; 5], input.memory.clone());
+            let window = Window { base: input.base, memory: &mut memory };
+            let verdict = (side.run)(&input.machine(), window, input.word, &mut answer);
+            (verdict, answer.to_vec(), memory)
+        };
+        count(&mut verdicts, same(run, || input.text()).0);
+    }
+    assert!(verdicts[..8].iter().all(|&count| count > 100), "{verdicts:?}");
+}
+
+/// With the independent implementation, in buffers too short, exact and longer, as the model is.
+#[test]
+fn making_patches() {
+    for side in &SIDES[1..] {
+        let report = Report::default();
+        let make: &Make = &side.make_patch;
+        making::compare(&report, make, STORES, 1);
+        assert_eq!(report.differences(), 0, "{}", side.name);
+    }
+}
+
+#[test]
+fn applying_patches() {
+    let mut verdicts = [0; 12];
+    for number in 0..STRINGS {
+        let mut random = Random::new(number);
+        let kind = random.below(kinds::KINDS.len());
+        let kinds::Case { runs, string } = kinds::case(&mut random, kind);
+        let place = random.below(windows::KINDS.len());
+        let window = windows::window(&mut random, place, &runs);
+        let filling = random.bytes(window.length);
+        let apply = |side: &Side| {
+            let (mut answer, mut memory) = ([GARBAGE; 5], filling.clone());
+            let verdict = (side.apply)(window.base, &mut memory, &string, &mut answer);
+            (verdict, answer.to_vec(), memory)
+        };
+        let text = || format!("{string:02X?} at {:X}h, {}", window.base, window.length);
+        count(&mut verdicts, same(apply, text).0);
+    }
+    assert!([0, 3, 9, 10].iter().all(|&verdict| verdicts[verdict] > 100), "{verdicts:?}");
+}
+
+#[test]
+fn decoding() {
+    let mut random = Random::new(2);
+    for number in 0..WORDS {
+        let class = &CLASSES[number as usize % CLASSES.len()];
+        let word = class.base | random.number() as u32 & class.free();
+        for word in [word, other_word(&mut random, class, word)] {
+            let decode = |side: &Side| {
+                let mut fields = [GARBAGE; 8];
+                let verdict = (side.decode)(word, &mut fields);
+                (verdict, fields.to_vec(), Vec::new())
+            };
+            same(decode, || format!("{word:08X}"));
+        }
+    }
+}
+
+#[test]
+fn every_case() {
+    for case in groups().iter().flat_map(|group| &group.cases) {
+        agree(case);
+        for side in &SIDES {
+            case.subject.repeated(side)(1);
+        }
+    }
+}

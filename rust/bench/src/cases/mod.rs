@@ -1,0 +1,74 @@
+//! What is measured.
+
+mod apply;
+mod decode;
+mod make_patch;
+mod run;
+mod stores;
+
+use crate::sides::Side;
+use crate::timing::Repeated;
+
+/// What a call answers and leaves: verdict, numbers, bytes.
+pub type Outcome = (u64, Vec<u64>, Vec<u8>);
+
+/// A call with its input.
+pub trait Subject {
+    /// What the call answers and leaves.
+    fn outcome(&self, side: &Side) -> Outcome;
+
+    /// The call, with buffers of its own, which aren't cleared between two calls.
+    fn repeated<'a>(&'a self, side: &'a Side) -> Repeated<'a>;
+
+    /// How many times the call does what is measured.
+    fn units(&self) -> usize {
+        1
+    }
+}
+
+/// The largest ratios of the model's time to another's that are aimed at.
+#[derive(Clone, Copy)]
+pub struct Aim {
+    pub idiomatic: f64,
+    pub hand: Option<f64>,
+}
+
+/// A row of the table.
+pub struct Case {
+    pub name: String,
+    pub aim: Aim,
+    pub subject: Box<dyn Subject>,
+}
+
+/// A table: its call, what a time is the time of, its rows.
+pub struct Group {
+    pub call: &'static str,
+    pub unit: &'static str,
+    pub cases: Vec<Case>,
+}
+
+/// Everything that is measured.
+pub fn groups() -> Vec<Group> {
+    let group = |call, unit, cases| Group { call, unit, cases };
+    vec![
+        group("run", "call", run::cases()),
+        group("make_patch", "call", make_patch::cases()),
+        group("apply", "call", apply::cases()),
+        group("decode", "word", decode::cases()),
+    ]
+}
+
+/// The cases whose call and name have this text in them.
+pub fn chosen(text: &str) -> Vec<Group> {
+    let mut groups = groups();
+    for Group { call, cases, .. } in &mut groups {
+        cases.retain(|case| format!("{call} {}", case.name).contains(text));
+    }
+    groups.retain(|group| !group.cases.is_empty());
+    groups
+}
+
+/// No slower than idiomatic Rust, and at most so many times the time of Rust written to be quick.
+fn times_hand(hand: f64) -> Aim {
+    Aim { idiomatic: 1.0, hand: Some(hand) }
+}

@@ -1,0 +1,92 @@
+//! What a call is lent, and the checks that all stores share.
+
+use super::decode::{field, row_of, Row};
+use crate::verdicts::{FAULT, ILLEGAL, LENGTH, LONGEST, REGISTERS, STACK, UNDEFINED, WINDOW};
+use starshackle::run::Flags;
+use starshackle::Answer;
+
+/// The registers, the window's address and length, and the word.
+#[derive(Clone, Copy)]
+pub struct Lent<'a> {
+    pub vb: usize,
+    pub flags: u64,
+    pub x: &'a [u64; 31],
+    pub sp: u64,
+    pub z: &'a [u8],
+    pub p: &'a [u8],
+    pub base: u64,
+    pub length: u64,
+    pub word: u32,
+}
+
+/// Whether there is no such window.
+#[inline(always)]
+pub fn bad_window(base: u64, length: u64) -> bool {
+    length > LONGEST as u64 || length > 0 && base > u64::MAX - (length - 1)
+}
+
+/// The answer to a fault.
+#[cold]
+pub fn fault(answer: &mut Answer, element: usize, address: u64) -> u64 {
+    (answer[0], answer[1]) = (element as u64, address);
+    FAULT
+}
+
+impl<'a> Lent<'a> {
+    /// The word's row, or a verdict from 1 to 5.
+    #[inline(always)]
+    pub fn row(&self) -> Result<&'static Row, u64> {
+        if !matches!(self.vb, 16 | 32 | 64 | 128 | 256) {
+            return Err(LENGTH);
+        }
+        if self.z.len() != 32 * self.vb || self.p.len() != 2 * self.vb {
+            return Err(REGISTERS);
+        }
+        if bad_window(self.base, self.length) {
+            return Err(WINDOW);
+        }
+        let row = row_of(self.word).ok_or(UNDEFINED)?;
+        let (feature, legal) = match row.class {
+            8..=11 => (Flags::SME2, self.has(Flags::STREAMING)),
+            12 => (Flags::SVE2P1, !self.has(Flags::STREAMING) || self.has(Flags::FA64)),
+            _ => (Flags::SVE, !self.has(Flags::STREAMING) || self.has(Flags::FA64)),
+        };
+        match (self.has(feature), legal) {
+            (false, _) => Err(UNDEFINED),
+            (true, false) => Err(ILLEGAL),
+            (true, true) => Ok(row),
+        }
+    }
+
+    #[inline(always)]
+    fn has(&self, flag: Flags) -> bool {
+        self.flags & flag.0 != 0
+    }
+
+    /// The base register, or the stack's verdict.
+    #[inline(always)]
+    pub fn base(&self, any_active: impl FnOnce() -> bool) -> Result<u64, u64> {
+        match self.x.get(field(self.word, 5, 31)) {
+            Some(&register) => Ok(register),
+            None if self.sp % 16 == 0 || !self.has(Flags::SP_CHECK) => Ok(self.sp),
+            None if self.has(Flags::SP_CHECK_NONE_ACTIVE) || any_active() => Err(STACK),
+            None => Ok(self.sp),
+        }
+    }
+
+    /// Rm, which is zero for 31.
+    #[inline(always)]
+    pub fn index(&self) -> u64 {
+        self.x.get(field(self.word, 16, 31)).map_or(0, |&index| index)
+    }
+
+    #[inline(always)]
+    pub fn z(&self, register: usize) -> &'a [u8] {
+        &self.z[register * self.vb..][..self.vb]
+    }
+
+    #[inline(always)]
+    pub fn p(&self, register: usize) -> &'a [u8] {
+        &self.p[register * (self.vb / 8)..][..self.vb / 8]
+    }
+}

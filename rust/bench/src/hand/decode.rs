@@ -1,0 +1,135 @@
+//! Words, by one look into a table.
+
+use crate::verdicts::{DONE, UNDEFINED};
+use starshackle::Fields;
+
+/// How 32-bit offsets are extended, as [`Fields`] has it.
+pub const NONE: u8 = 0;
+pub const UXTW: u8 = 1;
+pub const SXTW: u8 = 2;
+
+/// What words of a class have in common.
+#[derive(Clone, Copy)]
+pub struct Row {
+    /// The bits that are no field's.
+    fixed: u32,
+    /// What these are.
+    base: u32,
+    pub class: u8,
+    pub extension: u8,
+    /// The bits of Zm or Rm, from bit 16 on.
+    index: u8,
+    /// The bits of the first register.
+    register: u8,
+    /// How many registers an immediate counts, 0 where there is none.
+    pub step: u8,
+}
+
+/// No word has these bits.
+const EMPTY: Row =
+    Row { fixed: 0, base: 1, class: 0, extension: NONE, index: 0, register: 0, step: 0 };
+
+const fn row(class: u8, base: u32, fixed: u32) -> Row {
+    Row { fixed, base, class, extension: NONE, index: 31, register: 31, step: 0 }
+}
+
+const fn extended(class: u8, base: u32, extension: u8) -> Row {
+    let base = if extension == SXTW { base | 1 << 14 } else { base };
+    Row { extension, ..row(class, base, 0xFFE0_E000) }
+}
+
+const fn strided(class: u8, base: u32, register: u8) -> Row {
+    let fixed = 0xFFE0_E000 | !register as u32 & 0x1F;
+    Row { register, ..row(class, base, fixed) }
+}
+
+const fn immediate(class: u8, base: u32, register: u8, step: u8) -> Row {
+    let strided = strided(class, base, register);
+    Row { fixed: strided.fixed | 1 << 20, index: 0, step, ..strided }
+}
+
+const ROWS: [Row; 16] = [
+    extended(1, 0xE5A0_8000, UXTW),
+    extended(1, 0xE5A0_8000, SXTW),
+    extended(2, 0xE580_8000, UXTW),
+    extended(2, 0xE580_8000, SXTW),
+    row(3, 0xE5A0_A000, 0xFFE0_E000),
+    row(4, 0xE580_A000, 0xFFE0_E000),
+    extended(5, 0xE400_8000, UXTW),
+    extended(5, 0xE400_8000, SXTW),
+    extended(6, 0xE440_8000, UXTW),
+    extended(6, 0xE440_8000, SXTW),
+    row(7, 0xE400_A000, 0xFFE0_E000),
+    strided(8, 0xA120_6000, 0x17),
+    strided(9, 0xA120_E000, 0x13),
+    immediate(10, 0xA160_6000, 0x17, 2),
+    immediate(11, 0xA160_E000, 0x13, 4),
+    row(12, 0xE420_2000, 0xFFE0_E000),
+];
+
+/// Bits 24..21 and 15..13 tell the rows apart.
+const fn key(word: u32) -> usize {
+    (word >> 18 & 0x78 | word >> 13 & 7) as usize
+}
+
+static TABLE: [Row; 128] = table();
+
+const fn table() -> [Row; 128] {
+    let mut table = [EMPTY; 128];
+    let mut number = 0;
+    while number < ROWS.len() {
+        table[key(ROWS[number].base)] = ROWS[number];
+        number += 1;
+    }
+    table
+}
+
+/// The row of a word that has a class.
+#[inline(always)]
+pub fn row_of(word: u32) -> Option<&'static Row> {
+    let row = &TABLE[key(word)];
+    (word & row.fixed == row.base).then_some(row)
+}
+
+/// A field of a word, from bit `low` on.
+#[inline(always)]
+pub fn field(word: u32, low: u32, mask: u32) -> usize {
+    (word >> low & mask) as usize
+}
+
+impl Row {
+    /// The first register.
+    #[inline(always)]
+    pub fn register(&self, word: u32) -> usize {
+        field(word, 0, self.register.into())
+    }
+
+    /// The immediate in vectors.
+    #[inline(always)]
+    pub fn multiple(&self, word: u32) -> i64 {
+        i64::from((word << 12) as i32 >> 28) * i64::from(self.step)
+    }
+}
+
+/// As the model's.
+#[inline(never)]
+pub fn decode(word: u32, fields: &mut Fields) -> u64 {
+    let row = match row_of(word) {
+        None => {
+            *fields = [0; 8];
+            return UNDEFINED;
+        }
+        Some(row) => row,
+    };
+    *fields = [
+        row.class.into(),
+        field(word, 16, row.index.into()) as u64,
+        row.extension.into(),
+        field(word, 10, 7) as u64,
+        field(word, 5, 31) as u64,
+        row.register(word) as u64,
+        row.multiple(word) as u64,
+        0,
+    ];
+    DONE
+}

@@ -1,0 +1,124 @@
+//! The elements of scatter stores, and of quadword stores.
+
+use super::checks::{fault, Lent};
+use super::decode::{field, NONE, SXTW};
+use starshackle::Answer;
+
+/// Elements of `ESIZE` bytes, of which `SIZE` are stored, at offsets that are extended so. What is
+/// cold takes them by value, so that they need not lie in memory where it isn't called.
+#[derive(Clone, Copy)]
+pub struct Lanes<'a, const ESIZE: usize, const SIZE: usize, const EXTENSION: u8> {
+    mask: &'a [u8],
+    offsets: &'a [u8],
+    pub values: &'a [u8],
+    scale: u32,
+    /// Where offset 0 lies, counted from the window's start.
+    start: u64,
+    /// How many places of the window an element fits at.
+    room: u64,
+    base: u64,
+}
+
+/// An element: its number, whether it is active, its place in the window.
+pub struct Lane {
+    pub e: usize,
+    pub active: bool,
+    pub at: u64,
+}
+
+impl<'a, const ESIZE: usize, const SIZE: usize, const EXTENSION: u8>
+    Lanes<'a, ESIZE, SIZE, EXTENSION>
+{
+    /// Those of classes 1 to 7, or the stack's verdict.
+    #[inline(always)]
+    pub fn scatter(lent: &Lent<'a>, scale: u32) -> Result<Self, u64> {
+        let offsets = lent.z(field(lent.word, 16, 31));
+        let mut lanes = Lanes::new(lent, offsets, scale);
+        lanes.start = lent.base(|| lanes.any_active())?.wrapping_sub(lent.base);
+        Ok(lanes)
+    }
+
+    /// Those of class 12.
+    #[inline(always)]
+    pub fn quadword(lent: &Lent<'a>) -> Self {
+        let mut lanes = Lanes::new(lent, lent.z(field(lent.word, 5, 31)), 0);
+        lanes.start = lent.index().wrapping_sub(lent.base);
+        lanes
+    }
+
+    #[inline(always)]
+    fn new(lent: &Lent<'a>, offsets: &'a [u8], scale: u32) -> Self {
+        let mask = lent.p(field(lent.word, 10, 7));
+        let values = lent.z(field(lent.word, 0, 31));
+        let room = (lent.length + 1).saturating_sub(SIZE as u64);
+        Lanes { mask, offsets, values, scale, start: 0, room, base: lent.base }
+    }
+
+    /// Calls `take` with each element.
+    #[inline(always)]
+    pub fn each(&self, mut take: impl FnMut(Lane)) {
+        if ESIZE < 8 {
+            for (number, offsets) in self.offsets.chunks_exact(8).enumerate() {
+                let (bits, first) = (self.mask[number], number * (8 / ESIZE));
+                for (k, offset) in offsets.chunks_exact(ESIZE).enumerate() {
+                    take(self.lane(first + k, bits >> (k * ESIZE), offset));
+                }
+            }
+        } else {
+            for (e, offset) in self.offsets.chunks_exact(ESIZE).enumerate() {
+                take(self.lane(e, self.mask[e * (ESIZE / 8)], offset));
+            }
+        }
+    }
+
+    /// An element by its number, the bits of the mask from its own on, and its offset.
+    #[inline(always)]
+    fn lane(&self, e: usize, bits: u8, offset: &[u8]) -> Lane {
+        let at = self.start.wrapping_add(extended::<EXTENSION>(offset) << self.scale);
+        Lane { e, active: bits & 1 == 1, at }
+    }
+
+    /// What an element writes.
+    #[inline(always)]
+    pub fn value(&self, e: usize) -> &'a [u8] {
+        &self.values[e * ESIZE..][..SIZE]
+    }
+
+    /// Whether an element doesn't fit into the window at this place.
+    #[inline(always)]
+    pub fn is_outside(&self, at: u64) -> bool {
+        at >= self.room
+    }
+
+    #[cold]
+    fn any_active(self) -> bool {
+        let mut any = false;
+        self.each(|lane| any |= lane.active);
+        any
+    }
+
+    /// Tells the lowest active element outside the window, of which there is one.
+    #[cold]
+    pub fn fault(self, answer: &mut Answer) -> u64 {
+        let mut first = None;
+        self.each(|lane| {
+            if lane.active && self.is_outside(lane.at) {
+                first = first.or(Some((lane.e, lane.at)));
+            }
+        });
+        let (e, at) = first.expect("an element is outside");
+        fault(answer, e, self.base.wrapping_add(at))
+    }
+}
+
+#[inline(always)]
+fn extended<const EXTENSION: u8>(offset: &[u8]) -> u64 {
+    if EXTENSION == NONE {
+        return u64::from_le_bytes(offset[..8].try_into().expect("there are eight bytes"));
+    }
+    let offset = u32::from_le_bytes(offset[..4].try_into().expect("there are four bytes"));
+    match EXTENSION {
+        SXTW => offset as i32 as u64,
+        _ => offset.into(),
+    }
+}

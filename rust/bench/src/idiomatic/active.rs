@@ -1,0 +1,34 @@
+//! Which elements of a store are active.
+
+pub enum Active<'a> {
+    None,
+    /// Those whose first bit is set.
+    Predicate(&'a [u8]),
+    /// Those below the count, or the others, where this many bits of a number of bytes are dropped.
+    Counter {
+        dropped: u32,
+        count: usize,
+        inverted: bool,
+    },
+}
+
+impl<'a> Active<'a> {
+    pub fn counter(register: &[u8]) -> Active<'a> {
+        let counter = u16::from_le_bytes([register[0], register[1]]);
+        if counter & 0xF == 0 {
+            return Active::None;
+        }
+        let dropped = counter.trailing_zeros();
+        let count = usize::from(counter & 0x7FFF) >> (dropped + 1);
+        Active::Counter { dropped, count, inverted: counter >> 15 == 1 }
+    }
+
+    /// Whether the element is active that starts so many bytes behind the first.
+    pub fn at(&self, byte: usize) -> bool {
+        match *self {
+            Active::None => false,
+            Active::Predicate(bits) => bits[byte / 8] >> (byte % 8) & 1 == 1,
+            Active::Counter { dropped, count, inverted } => (byte >> dropped < count) != inverted,
+        }
+    }
+}

@@ -1,0 +1,269 @@
+//! Verdicts: what every call ends with.
+
+use crate::Answer;
+use std::error::Error;
+use std::fmt::{self, Display, Formatter};
+
+/// A verdict by its number in document 01, in the order in which they are checked: a call answers
+/// the lowest that is due.
+///
+/// ```
+/// use starshackle::Verdict;
+///
+/// assert_eq!(Verdict::Fault.number(), 7);
+/// assert_eq!(Verdict::Fault.to_string(), "fault (verdict 7)");
+/// ```
+#[derive(Clone, Copy, Debug, PartialEq, Eq, PartialOrd, Ord, Hash)]
+#[non_exhaustive]
+pub enum Verdict {
+    /// Not refused.
+    Done = 0,
+    /// VB isn't 16, 32, 64, 128 or 256.
+    Length = 1,
+    /// The Z buffer has other than 32 times VB bytes, or the P buffer other than twice VB.
+    Registers = 2,
+    /// The window has more than 65,536 bytes, or passes 2^64.
+    Window = 3,
+    /// The word has no class, or its class needs a flag that is off.
+    Undefined = 4,
+    /// Streaming mode is on or off where the class needs it otherwise.
+    Illegal = 5,
+    /// SP is the base, it is checked, and it isn't a multiple of 16.
+    Stack = 6,
+    /// An active element has a byte outside the window.
+    Fault = 7,
+    /// The buffer is shorter than the patch.
+    NoRoom = 8,
+    /// The bytes are not a patch.
+    BadPatch = 9,
+    /// A run isn't wholly in the window.
+    Outside = 10,
+    /// No word has these fields.
+    Fields = 11,
+}
+
+const UNDEFINED: &str = "the word has no class, or its class needs a flag that is off: \
+                         sve for 1 to 7, sme2 for 8 to 11, sve2p1 for 12";
+const ILLEGAL: &str = "classes 1 to 7 and 12 need streaming off or fa64 on, \
+                       classes 8 to 11 need streaming on";
+
+/// By number: the verdict, its name, and when it is given.
+const VERDICTS: [(Verdict, &str, &str); 12] = [
+    (Verdict::Done, "done", ""),
+    (Verdict::Length, "length", "VB isn't 16, 32, 64, 128 or 256"),
+    (Verdict::Registers, "registers", "the Z or P buffer has another size"),
+    (
+        Verdict::Window,
+        "window",
+        "the window has more than 65,536 bytes, or passes the top of the address space",
+    ),
+    (Verdict::Undefined, "undefined", UNDEFINED),
+    (Verdict::Illegal, "illegal", ILLEGAL),
+    (Verdict::Stack, "stack", "SP is the base, it is checked, and it isn't a multiple of 16"),
+    (Verdict::Fault, "fault", "an active element has a byte outside the window"),
+    (Verdict::NoRoom, "no room", "the buffer is shorter than the patch"),
+    (Verdict::BadPatch, "bad patch", "the bytes are not a patch"),
+    (Verdict::Outside, "outside", "a run isn't wholly in the window"),
+    (Verdict::Fields, "fields", "no word has these fields"),
+];
+
+impl Verdict {
+    /// The verdict with this number, if there is one.
+    ///
+    /// ```
+    /// use starshackle::Verdict;
+    ///
+    /// assert_eq!(Verdict::numbered(8), Some(Verdict::NoRoom));
+    /// assert_eq!(Verdict::numbered(12), None);
+    /// ```
+    pub fn numbered(number: u64) -> Option<Verdict> {
+        VERDICTS.get(usize::try_from(number).ok()?).map(|(verdict, ..)| *verdict)
+    }
+
+    /// The verdict of a call.
+    ///
+    /// ```
+    /// use starshackle::{decode, Verdict};
+    ///
+    /// assert_eq!(Verdict::of(&decode(0xA16F_6000)), Verdict::Done);
+    /// assert_eq!(Verdict::of(&decode(0)), Verdict::Undefined);
+    /// ```
+    pub fn of<T>(outcome: &Result<T, Refusal>) -> Verdict {
+        match outcome {
+            Ok(_) => Verdict::Done,
+            Err(refusal) => refusal.verdict(),
+        }
+    }
+
+    /// Its number.
+    ///
+    /// ```
+    /// assert_eq!(starshackle::Verdict::Fields.number(), 11);
+    /// ```
+    pub fn number(self) -> u64 {
+        self as u64
+    }
+
+    /// Its name in document 01.
+    ///
+    /// ```
+    /// assert_eq!(starshackle::Verdict::NoRoom.name(), "no room");
+    /// ```
+    pub fn name(self) -> &'static str {
+        VERDICTS[self as usize].1
+    }
+
+    /// When it is given; nothing for [`Verdict::Done`].
+    ///
+    /// ```
+    /// assert_eq!(starshackle::Verdict::Length.cause(), "VB isn't 16, 32, 64, 128 or 256");
+    /// ```
+    pub fn cause(self) -> &'static str {
+        VERDICTS[self as usize].2
+    }
+}
+
+impl Display for Verdict {
+    fn fmt(&self, f: &mut Formatter) -> fmt::Result {
+        write!(f, "{} (verdict {})", self.name(), self.number())
+    }
+}
+
+/// A verdict other than done, with its detail. Nothing has been written.
+///
+/// ```
+/// use starshackle::{decode, Refusal, Verdict};
+///
+/// let refusal = decode(0xE420_8000).unwrap_err();
+/// assert_eq!(refusal, Refusal::Undefined);
+/// assert_eq!(refusal.verdict(), Verdict::Undefined);
+///
+/// let fault = Refusal::Fault { element: 3, address: 0x1005 };
+/// let text = "fault (verdict 7): an active element has a byte outside the window: \
+///             element 3 at 0x0000000000001005";
+/// assert_eq!(fault.to_string(), text);
+/// ```
+#[derive(Clone, Copy, Debug, PartialEq, Eq, Hash)]
+#[non_exhaustive]
+pub enum Refusal {
+    /// [`Verdict::Length`].
+    Length,
+    /// [`Verdict::Registers`].
+    Registers,
+    /// [`Verdict::Window`].
+    Window,
+    /// [`Verdict::Undefined`].
+    Undefined,
+    /// [`Verdict::Illegal`].
+    Illegal,
+    /// [`Verdict::Stack`].
+    Stack,
+    /// [`Verdict::Fault`].
+    Fault {
+        /// The lowest active element with a byte outside the window.
+        element: u64,
+        /// Where it starts.
+        address: u64,
+    },
+    /// [`Verdict::NoRoom`].
+    NoRoom,
+    /// [`Verdict::BadPatch`].
+    BadPatch,
+    /// [`Verdict::Outside`].
+    Outside {
+        /// The lowest run that isn't wholly in the window.
+        run: u64,
+        /// Where it starts.
+        address: u64,
+    },
+    /// [`Verdict::Fields`].
+    Fields,
+}
+
+impl Refusal {
+    /// The refusal in a call's answer. That there is no other number is proved of the library.
+    pub(crate) fn answered(number: u64, answer: Answer) -> Refusal {
+        let [place, address, ..] = answer;
+        match Verdict::numbered(number) {
+            Some(Verdict::Length) => Refusal::Length,
+            Some(Verdict::Registers) => Refusal::Registers,
+            Some(Verdict::Window) => Refusal::Window,
+            Some(Verdict::Undefined) => Refusal::Undefined,
+            Some(Verdict::Illegal) => Refusal::Illegal,
+            Some(Verdict::Stack) => Refusal::Stack,
+            Some(Verdict::Fault) => Refusal::Fault { element: place, address },
+            Some(Verdict::NoRoom) => Refusal::NoRoom,
+            Some(Verdict::BadPatch) => Refusal::BadPatch,
+            Some(Verdict::Outside) => Refusal::Outside { run: place, address },
+            Some(Verdict::Fields) => Refusal::Fields,
+            Some(Verdict::Done) | None => unreachable!("no refusal has the number {number}"),
+        }
+    }
+
+    /// The verdict without its detail.
+    ///
+    /// ```
+    /// use starshackle::{Refusal, Verdict};
+    ///
+    /// assert_eq!(Refusal::Outside { run: 0, address: 0x1000 }.verdict(), Verdict::Outside);
+    /// ```
+    pub fn verdict(&self) -> Verdict {
+        match self {
+            Refusal::Length => Verdict::Length,
+            Refusal::Registers => Verdict::Registers,
+            Refusal::Window => Verdict::Window,
+            Refusal::Undefined => Verdict::Undefined,
+            Refusal::Illegal => Verdict::Illegal,
+            Refusal::Stack => Verdict::Stack,
+            Refusal::Fault { .. } => Verdict::Fault,
+            Refusal::NoRoom => Verdict::NoRoom,
+            Refusal::BadPatch => Verdict::BadPatch,
+            Refusal::Outside { .. } => Verdict::Outside,
+            Refusal::Fields => Verdict::Fields,
+        }
+    }
+}
+
+impl Display for Refusal {
+    fn fmt(&self, f: &mut Formatter) -> fmt::Result {
+        let verdict = self.verdict();
+        write!(f, "{verdict}: {}", verdict.cause())?;
+        match self {
+            Refusal::Fault { element, address } => {
+                write!(f, ": element {element} at {address:#018X}")
+            }
+            Refusal::Outside { run, address } => write!(f, ": run {run} at {address:#018X}"),
+            _ => Ok(()),
+        }
+    }
+}
+
+impl Error for Refusal {}
+
+#[cfg(test)]
+mod tests {
+    use super::*;
+
+    #[test]
+    fn numbers() {
+        for (number, (verdict, name, cause)) in VERDICTS.iter().enumerate() {
+            assert_eq!(verdict.number(), number as u64);
+            assert_eq!(Verdict::numbered(number as u64), Some(*verdict));
+            assert_eq!((verdict.name(), verdict.cause()), (*name, *cause));
+        }
+        assert_eq!(Verdict::numbered(u64::MAX), None);
+    }
+
+    #[test]
+    fn refusals() {
+        for (verdict, ..) in &VERDICTS[1..] {
+            let refusal = Refusal::answered(verdict.number(), [1, 2, 0, 0, 0]);
+            assert_eq!(refusal.verdict(), *verdict);
+        }
+        let fault = Refusal::Fault { element: 1, address: 2 };
+        assert_eq!(Refusal::answered(7, [1, 2, 0, 0, 0]), fault);
+        let outside = Refusal::Outside { run: 1, address: 2 };
+        assert_eq!(Refusal::answered(10, [1, 2, 0, 0, 0]), outside);
+        assert!(outside.to_string().ends_with(": run 1 at 0x0000000000000002"));
+    }
+}
