@@ -12,6 +12,8 @@ use Rattle.elements.specs.Plans.{vectorElements, scatterPlan, stridedPlan, quad
 use Rattle.elements.specs.declared.VectorPlan.{VectorPlan}
 use Rattle.checks.specs.declared.Verdict.{Verdict}
 use Rattle.checks.specs.declared.Verdict.the-variants.{Done, Length, Registers, Window, Undefined, Illegal, Stack, Fault}
+use Rattle.checks.specs.declared.stores.Plan.{Plan}
+use Rattle.checks.specs.declared.stores.Plan.the-variants as P
 use Rattle.checks.specs.declared.Checked.{Checked}
 use Rattle.checks.specs.declared.Checked.the-variants.{Refused, Vector, Strided}
 
@@ -28,10 +30,17 @@ abbrev pub vectorsIn : VectorPlan → ℕ → List ℕ → List ℕ → List Ele
 vectorsIn v vb z p = vectorElements v (register vb z (v .offsets)) (register (vb / 8) p (v .governing)) (register vb z (v .stored))
 
 -- a store's plan
+abbrev pub planFor : Machine → Store → Plan
+planFor m (S.Scatter f) = P.Vector (scatterPlan m (classFor (S.Scatter f)) f)
+planFor m (S.Strided f) = P.Strided (stridedPlan m (classFor (S.Strided f)) f)
+planFor m (S.Quadword f) = P.Vector (quadwordPlan m (classFor (S.Quadword f)) f)
+
+abbrev pub checkedOf : Plan → Checked
+checkedOf (P.Vector v) = Vector v
+checkedOf (P.Strided s) = Strided s
+
 abbrev pub planOf : Machine → Store → Checked
-planOf m (S.Scatter f) = Vector (scatterPlan m (classFor (S.Scatter f)) f)
-planOf m (S.Strided f) = Strided (stridedPlan m (classFor (S.Strided f)) f)
-planOf m (S.Quadword f) = Vector (quadwordPlan m (classFor (S.Quadword f)) f)
+planOf m s = checkedOf (planFor m s)
 
 -- a plan, where the verdict is done, else the refusal
 abbrev pub checkedBy : Verdict → Checked → Checked

@@ -2,16 +2,17 @@
 ghost use mathlib.Core.Path.{_≡_};
 ghost use mathlib.Core.Bool.{Bool, true, false};
 ghost use mathlib.Core.List.{List};
-ghost use Prim.Native.Nat.{ℕ, _*_, _/_};
+ghost use Prim.Native.Nat.{ℕ, _*_, _/_, _≤_};
 ghost use lib.ListN.{length};
-ghost use Rattle.encoding.specs.Encoding.{refused};
+ghost use Rattle.encoding.specs.Classes.{flag};
+ghost use Rattle.encoding.specs.Encoding.{featureOf, refused};
 ghost use Rattle.writes.specs.Elements.{Element};
 ghost use Rattle.writes.specs.Window.{windowOk};
 ghost use Rattle.elements.specs.Machine.{machine};
 ghost use Rattle.elements.specs.Plans.{VectorSound, vectorElements, StridedSound, stridedElements};
 ghost use Rattle.checks.specs.Scanning.{scanOf};
-ghost use Rattle.checks.specs.Verdicts.{stack, settled, verdictFor};
-ghost use Rattle.checks.specs.Steps.{Sound, vectorsIn, planOf, checkedBy};
+ghost use Rattle.checks.specs.Verdicts.{onStack, stack, settled, verdictFor};
+ghost use Rattle.checks.specs.Steps.{Sound, vectorsIn, planFor, planOf, checkedBy};
 use super::Checked;
 use super::Flags;
 use super::Scan;
@@ -26,10 +27,13 @@ use super::vectors::some_vector;
 use elements::StridedPlan;
 use elements::VectorPlan;
 use encoding::Decoded;
-use encoding::QuadwordFields;
-use encoding::ScatterFields;
 use encoding::Store;
-use encoding::StridedFields;
+
+// A store's plan, by its case.
+pub enum Plan {
+    Vector { plan: VectorPlan },
+    Strided { plan: StridedPlan },
+}
 
 // Verdicts 6 and 7 by whether the stack check refuses and what the scan found, or the plan.
 fn settle(scan: Scan, refuses: bool, plan: Checked) -> Checked
@@ -121,91 +125,44 @@ fn check_strided(
     settle(scan, refuses, Checked::Strided { plan: s })
 }
 
-fn scatter(
-    f: ScatterFields,
-    flags: Flags,
-    vb: usize,
-    x: &[u64; 31],
-    sp: u64,
-    z: &[u8],
-    p: &[u8],
-    base: u64,
-    room: u64,
-) -> Checked
-    requires { ⌜ refused (Store.Scatter f) ≡ false ⌝ }
-    requires { ⌜ Sound vb (now z) (now p) × (windowOk base room ≡ true) ⌝ }
-    ensures { λ r. ⌜ r ≡ checkedBy (verdictFor flags (machine vb (now (x .entry)) sp (now (z .entry)) (now (p .entry))) base room (Decoded.Known (Store.Scatter f))) (planOf (machine vb (now (x .entry)) sp (now (z .entry)) (now (p .entry))) (Store.Scatter f)) ⌝ }
+// The number of the flag that a store needs.
+fn feature_for(store: Store) -> u32
+    ensures { λ r. ⌜ r ≡ flag (featureOf store) ⌝ }
 {
-    if is_off(flags, 0) {
-        return Checked::Refused {
-            verdict: Verdict::Undefined,
-        };
+    match store {
+        Store::Scatter(_) => 0,
+        Store::Strided(_) => 1,
+        Store::Quadword(_) => 2,
     }
-    if is_illegal(flags, 0) {
-        return Checked::Refused {
-            verdict: Verdict::Illegal,
-        };
-    }
-    let plan = elements::scatter_plan(f, vb, x, sp);
-    check_vector(plan, f.rn == 31, flags, vb, sp, z, p, base, room)
 }
 
-fn quadword(
-    f: QuadwordFields,
-    flags: Flags,
-    vb: usize,
-    x: &[u64; 31],
-    sp: u64,
-    z: &[u8],
-    p: &[u8],
-    base: u64,
-    room: u64,
-) -> Checked
-    requires { ⌜ refused (Store.Quadword f) ≡ false ⌝ }
-    requires { ⌜ Sound vb (now z) (now p) × (windowOk base room ≡ true) ⌝ }
-    ensures { λ r. ⌜ r ≡ checkedBy (verdictFor flags (machine vb (now (x .entry)) sp (now (z .entry)) (now (p .entry))) base room (Decoded.Known (Store.Quadword f))) (planOf (machine vb (now (x .entry)) sp (now (z .entry)) (now (p .entry))) (Store.Quadword f)) ⌝ }
+// Whether a store's base is SP.
+fn is_on_stack(store: Store) -> bool
+    ensures { λ r. ⌜ r ≡ onStack store ⌝ }
 {
-    if is_off(flags, 2) {
-        return Checked::Refused {
-            verdict: Verdict::Undefined,
-        };
+    match store {
+        Store::Scatter(f) => f.rn == 31,
+        Store::Strided(f) => f.rn == 31,
+        Store::Quadword(_) => false,
     }
-    if is_illegal(flags, 2) {
-        return Checked::Refused {
-            verdict: Verdict::Illegal,
-        };
-    }
-    let plan = elements::quadword_plan(f, vb, x);
-    check_vector(plan, false, flags, vb, sp, z, p, base, room)
 }
 
-fn strided(
-    f: StridedFields,
-    flags: Flags,
-    vb: usize,
-    x: &[u64; 31],
-    sp: u64,
-    z: &[u8],
-    p: &[u8],
-    base: u64,
-    room: u64,
-) -> Checked
-    requires { ⌜ refused (Store.Strided f) ≡ false ⌝ }
-    requires { ⌜ Sound vb (now z) (now p) × (windowOk base room ≡ true) ⌝ }
-    ensures { λ r. ⌜ r ≡ checkedBy (verdictFor flags (machine vb (now (x .entry)) sp (now (z .entry)) (now (p .entry))) base room (Decoded.Known (Store.Strided f))) (planOf (machine vb (now (x .entry)) sp (now (z .entry)) (now (p .entry))) (Store.Strided f)) ⌝ }
+fn plan_for(store: Store, vb: usize, x: &[u64; 31], sp: u64, p: &[u8]) -> Plan
+    requires { ⌜ refused store ≡ false ⌝ }
+    requires { ⌜ (16 ≤ vb) × (vb ≤ 256) × (length (now p) ≡ 2 * vb) ⌝ }
+    ensures { λ r. ⌜ ((z : List ℕ) → r ≡ planFor (machine vb (now (x .entry)) sp z (now (p .entry))) store) ⌝ }
 {
-    if is_off(flags, 1) {
-        return Checked::Refused {
-            verdict: Verdict::Undefined,
-        };
+    match store {
+        Store::Scatter(f) => Plan::Vector {
+            plan: elements::scatter_plan(f, vb, x, sp),
+        },
+        Store::Strided(f) => Plan::Strided {
+            plan: elements::strided_plan(f, vb, x, sp, p),
+        },
+        Store::Quadword(f) => Plan::Vector {
+            plan: elements::quadword_plan(f, vb, x),
+        },
     }
-    if is_illegal(flags, 1) {
-        return Checked::Refused {
-            verdict: Verdict::Illegal,
-        };
-    }
-    let plan = elements::strided_plan(f, vb, x, sp, p);
-    check_strided(plan, f.rn == 31, flags, vb, sp, z, base, room)
 }
 
 // From verdict 4 on, for a decoded store.
@@ -224,9 +181,20 @@ pub fn check_store(
     requires { ⌜ Sound vb (now z) (now p) × (windowOk base room ≡ true) ⌝ }
     ensures { λ r. ⌜ r ≡ checkedBy (verdictFor flags (machine vb (now (x .entry)) sp (now (z .entry)) (now (p .entry))) base room (Decoded.Known store)) (planOf (machine vb (now (x .entry)) sp (now (z .entry)) (now (p .entry))) store) ⌝ }
 {
-    match store {
-        Store::Scatter(f) => scatter(f, flags, vb, x, sp, z, p, base, room),
-        Store::Strided(f) => strided(f, flags, vb, x, sp, z, p, base, room),
-        Store::Quadword(f) => quadword(f, flags, vb, x, sp, z, p, base, room),
+    let feature = feature_for(store);
+    if is_off(flags, feature) {
+        return Checked::Refused {
+            verdict: Verdict::Undefined,
+        };
+    }
+    if is_illegal(flags, feature) {
+        return Checked::Refused {
+            verdict: Verdict::Illegal,
+        };
+    }
+    let on_stack = is_on_stack(store);
+    match plan_for(store, vb, x, sp, p) {
+        Plan::Vector { plan } => check_vector(plan, on_stack, flags, vb, sp, z, p, base, room),
+        Plan::Strided { plan } => check_strided(plan, on_stack, flags, vb, sp, z, base, room),
     }
 }

@@ -3,7 +3,7 @@ use mathlib.Core.Path.{_≡_, refl, sym, ap, ap₂, _∙_, subst}
 use mathlib.Core.Bool.{Bool, true, false, cond, _&&_}
 use mathlib.Core.List.{List, [], _∷_, _++_, append-assoc, append-nil}
 use Prim.Native.Nat.{ℕ, zero, suc, _+_, _-_, _*_, _/_, _%_, _^_, _≤_, _<_}
-use native.Mathlib.Nat.{zero-mul, suc-mul, mul-le-mul}
+use native.Mathlib.Nat.{zero-mul, suc-mul, mul-le-mul, mul-le-mul-right}
 use native.Mathlib.Omega.{arith}
 use lib.Dec.{leb, ltb}
 use lib.ListN.{length, drop, take, length-append}
@@ -116,13 +116,18 @@ module _ (el : ℕ → Element) where
 
 -- ---- strided stores
 
-module _ (s : StridedPlan) (vb : ℕ) (o : StridedSound s vb) (z : List ℕ) (q : length z ≡ 32 * vb) where
+module _ (s : StridedPlan) (vb : ℕ) (o : StridedSound s vb) (z : List ℕ) where
   abbrev el : ℕ → Element
   el = stridedElement s vb z
 
   on-true : (i : ℕ) → s .low ≤ i → i < s .high → stridedActive s i ≡ true
   unfolding stridedActive
   on-true i a b = ap₂ _&&_ (le-leb (s .low) i a) (lt-ltb i (s .high) b)
+
+  -- the next address, where it doesn't pass the top
+  stepped : (i : ℕ) → stridedAddress s i + s .size < 2 ^ 64 → stridedAddress s (suc i) ≡ stridedAddress s i + s .size
+  unfolding stridedAddress
+  stepped i f = omega (arith, suc-mul i (s .step), o .packed)
 
   pub strided-listed : stridedElements s vb z ≡ listed el (s .high - s .low) (s .low)
   unfolding stridedElements stridedActive
@@ -143,92 +148,120 @@ module _ (s : StridedPlan) (vb : ℕ) (o : StridedSound s vb) (z : List ℕ) (q 
   unfolding listed
   strided-none h = let w : s .high - s .low ≡ 0 = omega arith in strided-listed ∙ ap (λ (n : ℕ). listed el n (s .low)) w
 
-  element-bytes : Bytes z → (i : ℕ) → Bytes (el i .bytes)
-  unfolding stridedElement
-  element-bytes bz i =
-      let r = s .first + i / s .per * s .stride in
-      let at = i % s .per * s .step in
-      bytes-take (s .size) (drop at (register vb z r)) (bytes-drop at (register vb z r) (bytes-take vb (drop (r * vb) z) (bytes-drop (r * vb) z bz)))
-
-  pub strided-bytes : Bytes z → Bytes (stridedBytes s vb z)
-  unfolding stridedBytes bytesFrom
-  strided-bytes bz = go (s .high - s .low) (s .low)
-    where
-      go : (n e : ℕ) → Bytes (bytesFrom el n e)
-      go zero e = tt
-      go (suc n) e = bytes-append (el e .bytes) (bytesFrom el n (suc e)) (element-bytes bz e) (go n (suc e))
-
-  pub strided-some : s .low < s .high → 1 ≤ length (stridedBytes s vb z)
-  strided-some h =
-      let a : 1 ≤ s .high - s .low = omega arith in
-      let b : 1 ≤ s .size = omega (arith, o .some) in
-      omega (arith, active-long s vb o z q, mul-le-mul a b)
-
-  -- in a window
-  module _ (W L : ℕ) (most : L ≤ 65536) (top : W + L ≤ 2 ^ 64) (fit : InWindow W L (stridedElements s vb z)) (h : s .low < s .high) where
-    inside : (i : ℕ) → s .low ≤ i → i < s .high → (W ≤ stridedAddress s i) × (stridedAddress s i + s .size ≤ W + L)
-    unfolding stridedElements stridedElement
-    inside i a b =
-        let f = active-in (stridedActive s) el W L (s .nreg * s .per) 0 fit i (omega arith) (omega (arith, o .most)) (on-true i a b) in
-        (f .0, subst (λ (n : ℕ). stridedAddress s i + n ≤ W + L) (bytes-long s vb o z q i b) (f .1))
-
-    step : (i : ℕ) → s .low ≤ i → suc i < s .high → stridedAddress s (suc i) ≡ stridedAddress s i + s .size
-    unfolding stridedAddress
-    step i a b =
-        let f = inside i a (omega arith) in
-        let g = inside (suc i) (omega arith) b in
-        omega (arith, f .0, f .1, g .0, g .1, suc-mul i (s .step), o .packed)
-
-    consecutive : Consecutive el (s .high - s .low) (s .low)
+  module _ (q : length z ≡ 32 * vb) where
+    element-bytes : Bytes z → (i : ℕ) → Bytes (el i .bytes)
     unfolding stridedElement
-    consecutive i a b =
-        step i a (omega arith) ∙ ap (λ (n : ℕ). stridedAddress s i + n) (sym (bytes-long s vb o z q i (omega arith)))
+    element-bytes bz i =
+        let r = s .first + i / s .per * s .stride in
+        let at = i % s .per * s .step in
+        bytes-take (s .size) (drop at (register vb z r)) (bytes-drop at (register vb z r) (bytes-take vb (drop (r * vb) z) (bytes-drop (r * vb) z bz)))
 
-    far : (d : ℕ) → s .low + d < s .high → stridedAddress s (s .low + d) ≡ stridedAddress s (s .low) + d * s .size
-    far zero k =
-        let w : s .low + 0 ≡ s .low = omega arith in
-        ap (stridedAddress s) w ∙ omega (arith, zero-mul (s .size))
-    far (suc d) k =
-        let w : s .low + suc d ≡ suc (s .low + d) = omega arith in
-        ap (stridedAddress s) w ∙ step (s .low + d) (omega arith) (omega arith) ∙ omega (arith, far d (omega arith), suc-mul d (s .size))
-
-    -- all that they write lies in the window
-    pub strided-place : (W ≤ stridedAddress s (s .low)) × (stridedAddress s (s .low) + (s .high - s .low) * s .size ≤ W + L)
-    strided-place =
-        let d = s .high - s .low - 1 in
-        let a : s .low + d < s .high = omega arith in
-        let w : suc d ≡ s .high - s .low = omega arith in
-        let e : suc d * s .size ≡ (s .high - s .low) * s .size = ap (λ (n : ℕ). n * s .size) w in
-        (inside (s .low) (omega arith) h .0, last d (far d a) (inside (s .low + d) (omega arith) a .1) e)
+    pub strided-bytes : Bytes z → Bytes (stridedBytes s vb z)
+    unfolding stridedBytes bytesFrom
+    strided-bytes bz = go (s .high - s .low) (s .low)
       where
-        last : (d : ℕ) → stridedAddress s (s .low + d) ≡ stridedAddress s (s .low) + d * s .size → stridedAddress s (s .low + d) + s .size ≤ W + L
-            → suc d * s .size ≡ (s .high - s .low) * s .size → stridedAddress s (s .low) + (s .high - s .low) * s .size ≤ W + L
-        last d p r e = omega (arith, suc-mul d (s .size))
+        go : (n e : ℕ) → Bytes (bytesFrom el n e)
+        go zero e = tt
+        go (suc n) e = bytes-append (el e .bytes) (bytesFrom el n (suc e)) (element-bytes bz e) (go n (suc e))
 
-    pub strided-written : (mem : List ℕ) → length mem ≡ L
-        → written W mem (stridedElements s vb z) ≡ over mem (stridedAddress s (s .low) - W) (stridedBytes s vb z)
-    unfolding stridedBytes stridedElement
-    strided-written mem lm = go (s .high - s .low) (omega arith) strided-listed consecutive active-long-here
-      where
-        active-long-here : length (bytesFrom el (s .high - s .low) (s .low)) ≡ (s .high - s .low) * s .size
-        active-long-here = active-long s vb o z q
+    pub strided-some : s .low < s .high → 1 ≤ length (stridedBytes s vb z)
+    strided-some h =
+        let a : 1 ≤ s .high - s .low = omega arith in
+        let b : 1 ≤ s .size = omega (arith, o .some) in
+        omega (arith, active-long s vb o z q, mul-le-mul a b)
 
-        go : (n : ℕ) → 0 < n → stridedElements s vb z ≡ listed el n (s .low) → Consecutive el n (s .low)
-            → length (bytesFrom el n (s .low)) ≡ (s .high - s .low) * s .size
-            → written W mem (stridedElements s vb z) ≡ over mem (stridedAddress s (s .low) - W) (bytesFrom el n (s .low))
-        go zero k e f l = absurd (omega arith)
-        go (suc n) k e f l =
-            ap (written W mem) e
-            ∙ written-listed el W mem n (s .low) f (strided-place .0) (omega (arith, strided-place .1))
+    -- all from one place on that doesn't pass the top
+    module _ (h : s .low < s .high) (top : stridedAddress s (s .low) + (s .high - s .low) * s .size ≤ 2 ^ 64) where
+      reached : (d : ℕ) → s .low + d < s .high → stridedAddress s (s .low + d) ≡ stridedAddress s (s .low) + d * s .size
+      reached zero k =
+          let w : s .low + 0 ≡ s .low = omega arith in
+          ap (stridedAddress s) w ∙ omega (arith, zero-mul (s .size))
+      reached (suc d) k =
+          let w : s .low + suc d ≡ suc (s .low + d) = omega arith in
+          let l : suc (suc d) ≤ s .high - s .low = omega arith in
+          let f : stridedAddress s (s .low + d) + s .size < 2 ^ 64 =
+          omega (arith, reached d (omega arith), mul-le-mul-right (s .size) l, suc-mul d (s .size), suc-mul (suc d) (s .size), o .some) in
+          ap (stridedAddress s) w ∙ stepped (s .low + d) f ∙ omega (arith, reached d (omega arith), suc-mul d (s .size))
 
-    pub strided-net : Bytes z → netEffect (stridedElements s vb z) ≡ writesOf (run (stridedAddress s (s .low)) (stridedBytes s vb z) ∷ [])
-    unfolding stridedBytes stridedElement
-    strided-net bz = go (s .high - s .low) (omega arith) (omega arith) strided-listed consecutive (active-long s vb o z q)
-      where
-        go : (n : ℕ) → 0 < n → n ≤ s .high - s .low → stridedElements s vb z ≡ listed el n (s .low) → Consecutive el n (s .low)
-            → length (bytesFrom el n (s .low)) ≡ (s .high - s .low) * s .size
-            → netEffect (stridedElements s vb z) ≡ writesOf (run (stridedAddress s (s .low)) (bytesFrom el n (s .low)) ∷ [])
-        go zero k t e f l = absurd (omega arith)
-        go (suc n) k t e f l =
-            ap (λ (x : List Element). netEffect x) e
-            ∙ net-listed el n (s .low) f (λ i a b. element-bytes bz i) (omega (arith, strided-place .1))
+      -- each of them lies where all do
+      pub each-inside : (W L i : ℕ) → W ≤ stridedAddress s (s .low) → stridedAddress s (s .low) + (s .high - s .low) * s .size ≤ W + L
+          → s .low ≤ i → i < s .high → (W ≤ stridedAddress s i) × (stridedAddress s i + s .size ≤ W + L)
+      each-inside W L i a b c e =
+          let d = i - s .low in
+          let w : s .low + d ≡ i = omega arith in
+          let l : suc d ≤ s .high - s .low = omega arith in
+          let f : stridedAddress s i ≡ stridedAddress s (s .low) + d * s .size =
+          ap (stridedAddress s) (sym w) ∙ reached d (subst (λ (n : ℕ). n < s .high) (sym w) e) in
+          within d (stridedAddress s i) f (mul-le-mul-right (s .size) l)
+        where
+          within : (d x : ℕ) → x ≡ stridedAddress s (s .low) + d * s .size → suc d * s .size ≤ (s .high - s .low) * s .size → (W ≤ x) × (x + s .size ≤ W + L)
+          within d x f m = (omega arith, omega (arith, suc-mul d (s .size)))
+
+    -- in a window
+    module _ (W L : ℕ) (most : L ≤ 65536) (top : W + L ≤ 2 ^ 64) (fit : InWindow W L (stridedElements s vb z)) (h : s .low < s .high) where
+      inside : (i : ℕ) → s .low ≤ i → i < s .high → (W ≤ stridedAddress s i) × (stridedAddress s i + s .size ≤ W + L)
+      unfolding stridedElements stridedElement
+      inside i a b =
+          let f = active-in (stridedActive s) el W L (s .nreg * s .per) 0 fit i (omega arith) (omega (arith, o .most)) (on-true i a b) in
+          (f .0, subst (λ (n : ℕ). stridedAddress s i + n ≤ W + L) (bytes-long s vb o z q i b) (f .1))
+
+      step : (i : ℕ) → s .low ≤ i → suc i < s .high → stridedAddress s (suc i) ≡ stridedAddress s i + s .size
+      unfolding stridedAddress
+      step i a b =
+          let f = inside i a (omega arith) in
+          let g = inside (suc i) (omega arith) b in
+          omega (arith, f .0, f .1, g .0, g .1, suc-mul i (s .step), o .packed)
+
+      consecutive : Consecutive el (s .high - s .low) (s .low)
+      unfolding stridedElement
+      consecutive i a b =
+          step i a (omega arith) ∙ ap (λ (n : ℕ). stridedAddress s i + n) (sym (bytes-long s vb o z q i (omega arith)))
+
+      far : (d : ℕ) → s .low + d < s .high → stridedAddress s (s .low + d) ≡ stridedAddress s (s .low) + d * s .size
+      far zero k =
+          let w : s .low + 0 ≡ s .low = omega arith in
+          ap (stridedAddress s) w ∙ omega (arith, zero-mul (s .size))
+      far (suc d) k =
+          let w : s .low + suc d ≡ suc (s .low + d) = omega arith in
+          ap (stridedAddress s) w ∙ step (s .low + d) (omega arith) (omega arith) ∙ omega (arith, far d (omega arith), suc-mul d (s .size))
+
+      -- all that they write lies in the window
+      pub strided-place : (W ≤ stridedAddress s (s .low)) × (stridedAddress s (s .low) + (s .high - s .low) * s .size ≤ W + L)
+      strided-place =
+          let d = s .high - s .low - 1 in
+          let a : s .low + d < s .high = omega arith in
+          let w : suc d ≡ s .high - s .low = omega arith in
+          let e : suc d * s .size ≡ (s .high - s .low) * s .size = ap (λ (n : ℕ). n * s .size) w in
+          (inside (s .low) (omega arith) h .0, last d (far d a) (inside (s .low + d) (omega arith) a .1) e)
+        where
+          last : (d : ℕ) → stridedAddress s (s .low + d) ≡ stridedAddress s (s .low) + d * s .size → stridedAddress s (s .low + d) + s .size ≤ W + L
+              → suc d * s .size ≡ (s .high - s .low) * s .size → stridedAddress s (s .low) + (s .high - s .low) * s .size ≤ W + L
+          last d p r e = omega (arith, suc-mul d (s .size))
+
+      pub strided-written : (mem : List ℕ) → length mem ≡ L
+          → written W mem (stridedElements s vb z) ≡ over mem (stridedAddress s (s .low) - W) (stridedBytes s vb z)
+      unfolding stridedBytes stridedElement
+      strided-written mem lm = go (s .high - s .low) (omega arith) strided-listed consecutive active-long-here
+        where
+          active-long-here : length (bytesFrom el (s .high - s .low) (s .low)) ≡ (s .high - s .low) * s .size
+          active-long-here = active-long s vb o z q
+
+          go : (n : ℕ) → 0 < n → stridedElements s vb z ≡ listed el n (s .low) → Consecutive el n (s .low)
+              → length (bytesFrom el n (s .low)) ≡ (s .high - s .low) * s .size
+              → written W mem (stridedElements s vb z) ≡ over mem (stridedAddress s (s .low) - W) (bytesFrom el n (s .low))
+          go zero k e f l = absurd (omega arith)
+          go (suc n) k e f l =
+              ap (written W mem) e
+              ∙ written-listed el W mem n (s .low) f (strided-place .0) (omega (arith, strided-place .1))
+
+      pub strided-net : Bytes z → netEffect (stridedElements s vb z) ≡ writesOf (run (stridedAddress s (s .low)) (stridedBytes s vb z) ∷ [])
+      unfolding stridedBytes stridedElement
+      strided-net bz = go (s .high - s .low) (omega arith) (omega arith) strided-listed consecutive (active-long s vb o z q)
+        where
+          go : (n : ℕ) → 0 < n → n ≤ s .high - s .low → stridedElements s vb z ≡ listed el n (s .low) → Consecutive el n (s .low)
+              → length (bytesFrom el n (s .low)) ≡ (s .high - s .low) * s .size
+              → netEffect (stridedElements s vb z) ≡ writesOf (run (stridedAddress s (s .low)) (bytesFrom el n (s .low)) ∷ [])
+          go zero k t e f l = absurd (omega arith)
+          go (suc n) k t e f l =
+              ap (λ (x : List Element). netEffect x) e
+              ∙ net-listed el n (s .low) f (λ i a b. element-bytes bz i) (omega (arith, strided-place .1))

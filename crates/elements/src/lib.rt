@@ -22,12 +22,13 @@ use encoding::ScatterFields;
 use encoding::Store;
 use encoding::StridedFields;
 
-// A scatter or quadword store: base and offset of each address, bytes from element to element, bytes to move, the elements' number,
-// and the registers with the offsets, the predicate and the data.
+// A scatter or quadword store: offset and base of each address, bytes from element to element, bytes to move, the elements' number,
+// and the registers with the offsets, the predicate and the data. The one-byte field comes first, where a refusal's tag lies in
+// `Checked`: eight bytes there would be stored in pieces and read late.
 pub struct VectorPlan {
-    pub base: u64,
     pub extension: Extension,
     pub scale: u32,
+    pub base: u64,
     pub step: usize,
     pub size: usize,
     pub count: usize,

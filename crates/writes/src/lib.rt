@@ -3,8 +3,8 @@ ghost use mathlib.Core.Path.{_≡_};
 ghost use mathlib.Core.Bool.{true, not};
 ghost use Prim.Native.Nat.{ℕ, _+_, _-_, _^_, _≤_, _<_};
 ghost use lib.ListN.{length, take, drop};
-ghost use lib.Seq.{paste};
-ghost use Rattle.writes.specs.LittleEndian.{leVal};
+ghost use Rattle.writes.specs.LittleEndian.{leVal, leBytes};
+ghost use Rattle.writes.specs.Elements.{over};
 ghost use Rattle.writes.specs.Window.{windowOk, inWindow};
 
 // A byte as a word.
@@ -46,92 +46,69 @@ pub fn le64(s: &[u8], at: usize) -> u64
     low + 0x1_0000_0000 * high
 }
 
-// Two bytes at index i: all loads before the stores, so that they become one move of each.
+// The low two bytes of a number, the lower first, at index `at`.
+pub fn put16(out: &mut [u8], at: usize, x: u64)
+    requires { ⌜ at + 2 ≤ length (now out) ⌝ }
+    ensures { λ _. ⌜ now (out .exit) ≡ over (now (out .entry)) at (leBytes 2 x) ⌝ }
+{
+    out[at] = (x % 256) as u8;
+    out[at + 1] = (x / 256 % 256) as u8;
+}
+
+// The low four bytes of a number.
+pub fn put32(out: &mut [u8], at: usize, x: u64)
+    requires { ⌜ at + 4 ≤ length (now out) ⌝ }
+    ensures { λ _. ⌜ now (out .exit) ≡ over (now (out .entry)) at (leBytes 4 x) ⌝ }
+{
+    put16(out, at, x);
+    put16(out, at + 2, x / 0x10000);
+}
+
+// The eight bytes of a number.
+pub fn put64(out: &mut [u8], at: usize, x: u64)
+    requires { ⌜ at + 8 ≤ length (now out) ⌝ }
+    ensures { λ _. ⌜ now (out .exit) ≡ over (now (out .entry)) at (leBytes 8 x) ⌝ }
+{
+    put32(out, at, x);
+    put32(out, at + 4, x / 0x1_0000_0000);
+}
+
+// Two bytes at index i, as a number: one move of each.
 fn copy2(dst: &mut [u8], src: &[u8], i: usize)
     requires { ⌜ (i + 2 ≤ length (now dst)) × (i + 2 ≤ length (now src)) ⌝ }
-    ensures { λ _. ⌜ now (dst .exit) ≡ paste (now (dst .entry)) i (drop i (now (src .entry))) 2 ⌝ }
+    ensures { λ _. ⌜ now (dst .exit) ≡ over (now (dst .entry)) i (take 2 (drop i (now (src .entry)))) ⌝ }
 {
-    let b0 = src[i];
-    let b1 = src[i + 1];
-    dst[i] = b0;
-    dst[i + 1] = b1;
+    let x = le16(src, i);
+    put16(dst, i, x);
 }
 
 // Four bytes at index i.
 fn copy4(dst: &mut [u8], src: &[u8], i: usize)
     requires { ⌜ (i + 4 ≤ length (now dst)) × (i + 4 ≤ length (now src)) ⌝ }
-    ensures { λ _. ⌜ now (dst .exit) ≡ paste (now (dst .entry)) i (drop i (now (src .entry))) 4 ⌝ }
+    ensures { λ _. ⌜ now (dst .exit) ≡ over (now (dst .entry)) i (take 4 (drop i (now (src .entry)))) ⌝ }
 {
-    let b0 = src[i];
-    let b1 = src[i + 1];
-    let b2 = src[i + 2];
-    let b3 = src[i + 3];
-    dst[i] = b0;
-    dst[i + 1] = b1;
-    dst[i + 2] = b2;
-    dst[i + 3] = b3;
+    let x = le32(src, i);
+    put32(dst, i, x);
 }
 
 // Eight bytes at index i.
 fn copy8(dst: &mut [u8], src: &[u8], i: usize)
     requires { ⌜ (i + 8 ≤ length (now dst)) × (i + 8 ≤ length (now src)) ⌝ }
-    ensures { λ _. ⌜ now (dst .exit) ≡ paste (now (dst .entry)) i (drop i (now (src .entry))) 8 ⌝ }
+    ensures { λ _. ⌜ now (dst .exit) ≡ over (now (dst .entry)) i (take 8 (drop i (now (src .entry)))) ⌝ }
 {
-    let b0 = src[i];
-    let b1 = src[i + 1];
-    let b2 = src[i + 2];
-    let b3 = src[i + 3];
-    let b4 = src[i + 4];
-    let b5 = src[i + 5];
-    let b6 = src[i + 6];
-    let b7 = src[i + 7];
-    dst[i] = b0;
-    dst[i + 1] = b1;
-    dst[i + 2] = b2;
-    dst[i + 3] = b3;
-    dst[i + 4] = b4;
-    dst[i + 5] = b5;
-    dst[i + 6] = b6;
-    dst[i + 7] = b7;
+    let x = le64(src, i);
+    put64(dst, i, x);
 }
 
-// Sixteen bytes at index i.
+// Sixteen bytes at index i, both numbers read before they are put.
 fn copy16(dst: &mut [u8], src: &[u8], i: usize)
     requires { ⌜ (i + 16 ≤ length (now dst)) × (i + 16 ≤ length (now src)) ⌝ }
-    ensures { λ _. ⌜ now (dst .exit) ≡ paste (now (dst .entry)) i (drop i (now (src .entry))) 16 ⌝ }
+    ensures { λ _. ⌜ now (dst .exit) ≡ over (now (dst .entry)) i (take 16 (drop i (now (src .entry)))) ⌝ }
 {
-    let b0 = src[i];
-    let b1 = src[i + 1];
-    let b2 = src[i + 2];
-    let b3 = src[i + 3];
-    let b4 = src[i + 4];
-    let b5 = src[i + 5];
-    let b6 = src[i + 6];
-    let b7 = src[i + 7];
-    let b8 = src[i + 8];
-    let b9 = src[i + 9];
-    let b10 = src[i + 10];
-    let b11 = src[i + 11];
-    let b12 = src[i + 12];
-    let b13 = src[i + 13];
-    let b14 = src[i + 14];
-    let b15 = src[i + 15];
-    dst[i] = b0;
-    dst[i + 1] = b1;
-    dst[i + 2] = b2;
-    dst[i + 3] = b3;
-    dst[i + 4] = b4;
-    dst[i + 5] = b5;
-    dst[i + 6] = b6;
-    dst[i + 7] = b7;
-    dst[i + 8] = b8;
-    dst[i + 9] = b9;
-    dst[i + 10] = b10;
-    dst[i + 11] = b11;
-    dst[i + 12] = b12;
-    dst[i + 13] = b13;
-    dst[i + 14] = b14;
-    dst[i + 15] = b15;
+    let low = le64(src, i);
+    let high = le64(src, i + 8);
+    put64(dst, i, low);
+    put64(dst, i + 8, high);
 }
 
 // Sixteen bytes or more: sixteen at a time, and the last sixteen, which may overlap those.

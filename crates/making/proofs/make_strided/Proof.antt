@@ -35,7 +35,7 @@ returns c =
     let a = c .before .before .before .before .before .before .before in
     let k = c .before .before .make-empty in
     subst (λ (l : List Element). MadeOf l (a .args .s .size) (a .args .patch .now) (k .result) (k .last .0))
-    (sym (strided-none (a .args .s) (a .args .vb) (a .pre .0) (a .args .z .now) (a .pre .1 .0) (omega (arith, c .before .before .before .before .if1 .taken)))) (k .ensures (a .args .s .size))
+    (sym (strided-none (a .args .s) (a .args .vb) (a .pre .0) (a .args .z .now) (omega (arith, c .before .before .before .before .if1 .taken)))) (k .ensures (a .args .s .size))
 
 -- ---- some are active
 
@@ -124,7 +124,7 @@ returns-3 c =
     let h = c .before .before .before .before .before .before .before .before .before .before .put-head in
     let m = c .before .before .before .before .before .before .copy-active in
     let t = c .before .before .put-trailer in
-    let count = strided-count (a .args .s) (a .args .vb) (a .pre .0) (a .args .z .now) (a .pre .1 .0) in
+    let count = strided-count (a .args .s) (a .args .vb) (a .pre .0) (a .args .z .now) in
     room-of (es a) (a .args .s .size) (oneRun (start k) (bytes k)) (encoded k) (a .args .patch .now) (m .result .elements) (m .result .bytes)
     (n k + 16) (t .last .0) (sym (one-long (start k) (bytes k) ∙ ap (λ (i : ℕ). i + 16) (long k)))
     (omega (arith, c .before .before .before .before .before .before .before .before .before .before .before .before .before .if2 .left))

@@ -20,7 +20,7 @@ returns : tie.Need-returns
 unfolding written
 returns c =
     let a = c .before .before .before in
-    let e = strided-none (a .args .s) (a .args .vb) (a .pre .0) (a .args .z .now) (a .pre .1 .0) (c .if1 .taken) in (
+    let e = strided-none (a .args .s) (a .args .vb) (a .pre .0) (a .args .z .now) (c .if1 .taken) in (
       sym (ap length e),
       (
         sym (ap (λ (l : List Element). length l * a .args .s .size) e ∙ zero-mul (a .args .s .size)),
@@ -88,7 +88,7 @@ returns-2 c =
     let a = st k in
     let m = c .before .before .copy-active in
     let w = window-inv (a .args .base) (length (a .args .memory .now)) (a .pre .1 .1 .0) in
-    let count = strided-count (a .args .s) (a .args .vb) (a .pre .0) (a .args .z .now) (a .pre .1 .0) in
+    let count = strided-count (a .args .s) (a .args .vb) (a .pre .0) (a .args .z .now) in
     let bytes = stridedBytes (a .args .s) (a .args .vb) (a .args .z .now) in (
       m .ensures .0 ∙ sym count,
       (
