@@ -1,4 +1,4 @@
--- Which addresses intervals cover: those that the elements taken in write. Assumes nothing.
+-- Which addresses intervals cover, and what they have to be for elements. Assumes nothing.
 use mathlib.Core.Path.{_≡_, refl, sym, ap, ap₂, _∙_}
 use Prim.Native.Nat.{ℕ, _+_, _-_, _≤_, _<_}
 use mathlib.Core.List.{List, [], _∷_}
@@ -9,12 +9,10 @@ use lib.ListN.{length}
 use lib.Dec.{ltb}
 use borrow.Author.Tests.{lt-ltb, le-ltb}
 use Rattle.writes.specs.Sets.{ByteWrite, lookup, writesAt}
-use Rattle.writes.specs.Elements.{Element, splice, spliceAll}
+use Rattle.writes.specs.Elements.{Element, netEffect}
 use Rattle.writes.proofs.Order.{two}
 use Rattle.writes.proofs.Lookup.{lookup-writesAt-below, lookup-writesAt-past, lookup-writesAt-at}
-use Rattle.writes.proofs.Net.{lookup-splice}
-use Rattle.intervals.specs.Intervals.{Interval, interval, insert, inserts, Fits}
-use Rattle.intervals.proofs.Inserting.{insert-past, insert-before, insert-meet}
+use Rattle.composing.specs.Intervals.{Interval, interval, Separate, AllHeld}
 
 -- x is one of the n addresses from s on
 unfoldable pub among : ℕ → ℕ → ℕ → Bool
@@ -41,18 +39,18 @@ among-high : (s n x : ℕ) → s + n ≤ x → among s n x ≡ false
 unfolding among
 among-high s n x h = simp (le-ltb x s (omega arith), le-ltb x (s + n) h)
 
-or-swap : (a b t : Bool) → or a (or b t) ≡ or b (or a t)
+pub or-swap : (a b t : Bool) → or a (or b t) ≡ or b (or a t)
 or-swap true true t = refl
 or-swap true false t = refl
 or-swap false true t = refl
 or-swap false false t = refl
 
-or-assoc : (a b t : Bool) → or (or a b) t ≡ or a (or b t)
+pub or-assoc : (a b t : Bool) → or (or a b) t ≡ or a (or b t)
 or-assoc true b t = refl
 or-assoc false b t = refl
 
 -- two that meet or touch together are one
-hull : (W x s e a n : ℕ) → s < e → s ≤ a + n → a ≤ e
+pub hull : (W x s e a n : ℕ) → s < e → s ≤ a + n → a ≤ e
     → among (W + (s - (s - a))) (e + (a + n - e) - (s - (s - a))) x ≡ or (among (W + s) (e - s) x) (among (W + a) n x)
 hull W x s e a n h k m =
     let t : ℕ = s - (s - a) in
@@ -74,22 +72,6 @@ hull W x s e a n h k m =
     among-yes (W + t) l x (omega arith) (omega arith)
     ∙ sym (ap second (among-high (W + s) (e - s) x (omega arith)) ∙ among-yes (W + a) n x (omega arith) z))
     (λ z. among-high (W + t) l x (omega arith) ∙ sym (ap second (among-high (W + s) (e - s) x (omega arith)) ∙ among-high (W + a) n x z))))
-
-covered-insert : (W x s e : ℕ) (I : List Interval) → s < e → covered W x (insert s e I) ≡ or (among (W + s) (e - s) x) (covered W x I)
-unfolding insert covered
-covered-insert W x s e [] h = refl
-covered-insert W x s e (interval a n ∷ I) h =
-    two (a + n) s
-    (λ p.
-    ap (covered W x) (insert-past s e a n I p) ∙ ap (or (among (W + a) n x)) (covered-insert W x s e I h)
-    ∙ or-swap (among (W + a) n x) (among (W + s) (e - s) x) (covered W x I))
-    (λ p.
-    two e a
-    (λ q. ap (covered W x) (insert-before s e a n I p q))
-    (λ q.
-    ap (covered W x) (insert-meet s e a n I p q) ∙ covered-insert W x (s - (s - a)) (e + (a + n - e)) I (omega arith)
-    ∙ ap (λ (u : Bool). or u (covered W x I)) (hull W x s e a n h p q)
-    ∙ or-assoc (among (W + s) (e - s) x) (among (W + a) n x) (covered W x I)))
 
 -- ---- the addresses of a set
 
@@ -114,20 +96,8 @@ unfolding orElse
 some-or none o′ = refl
 some-or (some b) o′ = refl
 
--- intervals that cover a set's addresses, with elements taken in, cover those of the set with the elements written over it
-pub covered-inserts : (W L x : ℕ) (I : List Interval) (S : List ByteWrite) (es : List Element) → Fits W L es
-    → covered W x I ≡ isSome (lookup x S) → covered W x (inserts W I es) ≡ isSome (lookup x (spliceAll S es))
-unfolding inserts spliceAll
-covered-inserts W L x I S [] h c = c
-covered-inserts W L x I S (e ∷ es) h c =
-    let s = e .address in
-    let p = e .bytes in
-    let h0 : W ≤ s = h .0 in
-    let h1 : 1 ≤ length p = h .1 in
-    let w : W + (s - W) ≡ s = omega arith in
-    let v : s - W + length p - (s - W) ≡ length p = omega arith in
-    covered-inserts W L x (insert (s - W) (s - W + length p) I) (splice s p S) es (h .4)
-    (covered-insert W x (s - W) (s - W + length p) I (omega arith)
-    ∙ ap₂ (λ (y n : ℕ). or (among y n x) (covered W x I)) w v
-    ∙ ap₂ or (sym (some-writesAt x s p)) c
-    ∙ sym (ap isSome (lookup-splice x s p S) ∙ some-or (lookup x (writesAt s p)) (lookup x S)))
+-- separate intervals that hold every element, and cover no other address
+pub record Covers (W L : ℕ) (es : List Element) (I : List Interval) : Type 0 where
+  pub separate : Separate L 0 I
+  pub all : AllHeld W I es
+  pub same : (x : ℕ) → covered W x I ≡ isSome (lookup x (netEffect es))

@@ -17,7 +17,7 @@ use Rattle.writes.proofs.Order.{two, absurdly}
 use Rattle.writes.proofs.LittleEndian.{bytes-take, bytes-drop, bytes-append}
 use Rattle.writes.proofs.Lookup.{lookup-append, lookup-writesAt-below, lookup-writesAt-past, lookup-writesAt-at}
 use Rattle.writes.proofs.Overlay.{length-over, over-before, over-in, over-past}
-use Rattle.intervals.specs.Intervals.{Interval, interval, Separate, Holds}
+use Rattle.composing.specs.Intervals.{Interval, interval, Separate, Holds}
 use Rattle.composing.specs.Composing.{headBytes, spot, total}
 use Rattle.composing.proofs.Putting.{over-at, over-back}
 use Rattle.composing.proofs.Shapes.{Shape, run-headed, length-headBytes}

@@ -1,8 +1,6 @@
 pub mod Putting
 pub mod Sums
-pub mod Heading
 pub mod Covering
 pub mod Shapes
 pub mod Laying
 pub mod Made
-pub mod Reaching

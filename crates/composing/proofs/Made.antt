@@ -14,10 +14,9 @@ use Rattle.writes.proofs.Runs.{runs-writesOf, ascending-writesOf, runsThen-appe
 use Rattle.writes.proofs.Lookup.{or-none, ext-lookup}
 use Rattle.writes.proofs.Net.{lookup-splice, lookup-spliceAll, ascending-spliceAll}
 use Rattle.writes.proofs.Overlay.{length-over}
-use Rattle.intervals.specs.Intervals.{Interval, interval, inserts, Separate, AllHeld, Fits}
-use Rattle.intervals.proofs.Inserting.{separate-inserts, inserts-hold}
+use Rattle.composing.specs.Intervals.{Interval, interval, Separate, AllHeld, Fits}
 use Rattle.composing.specs.Composing.{headBytes, heads, spot, laid, total}
-use Rattle.composing.proofs.Covering.{covered, isSome, covered-inserts}
+use Rattle.composing.proofs.Covering.{isSome, Covers}
 use Rattle.composing.proofs.Shapes.{Shape, length-shape, length-runs, some-shape, apart-shape}
 use Rattle.composing.proofs.Shapes.{headed, headed-shape, heads-runs, length-headBytes}
 use Rattle.composing.proofs.Laying.{put, Put, put-one, spot-room}
@@ -76,39 +75,34 @@ apart-less : (f : ℕ) (rs : List Run) → Apart f rs → Apart 0 rs
 apart-less f [] g = tt
 apart-less f (run c q ∷ rs) g = (omega arith, g .1, g .2, g .3, g .4)
 
-module _ (W L : ℕ) (es : List Element) (t : W + L ≤ 2 ^ 64) (h : Fits W L es) where
-  separate : Separate L 0 (inserts W [] es)
-  separate = separate-inserts W L [] es h tt
+module _ (W L : ℕ) (es : List Element) (I : List Interval) (t : W + L ≤ 2 ^ 64) (h : Fits W L es) (v : Covers W L es I) where
+  all-laid : (rs : List Run) → Shape W I rs → Laid W I rs es
+  all-laid rs k = lay-all W L I rs es h (v .all) (v .separate) k
 
-  all-laid : (rs : List Run) → Shape W (inserts W [] es) rs → Laid W (inserts W [] es) rs es
-  all-laid rs k = lay-all W L (inserts W [] es) rs es h (inserts-hold W [] es) separate k
-
-  puts-net : (rs : List Run) → Shape W (inserts W [] es) rs → puts rs es ≡ runs (netEffect es)
-  unfolding covered lookup
+  puts-net : (rs : List Run) → Shape W I rs → puts rs es ≡ runs (netEffect es)
+  unfolding lookup
   puts-net rs k =
-      let I : List Interval = inserts W [] es in
       let R : Laid W I rs es = all-laid rs k in
       let N : List ByteWrite = netEffect es in
-      let G : Apart 0 (puts rs es) = apart-less (W + 0) (puts rs es) (apart-shape W L 0 I (puts rs es) t separate (R .shape)) in
+      let G : Apart 0 (puts rs es) = apart-less (W + 0) (puts rs es) (apart-shape W L 0 I (puts rs es) t (v .separate) (R .shape)) in
       let same : (x : ℕ) → lookup x (writesOf (puts rs es)) ≡ lookup x N = λ x.
       let fn : lookup x N ≡ lastAt x es = lookup-spliceAll x [] es ∙ or-none (lastAt x es) in
       R .finds x ∙ lookup-spliceAll x (writesOf rs) es ∙ ap (λ (o : Option ℕ). orElse o (lookup x (writesOf rs))) (sym fn)
-      ∙ or-same (lookup x N) (lookup x (writesOf rs)) (some-shape W x I rs k ∙ covered-inserts W L x [] [] es h refl) in
+      ∙ or-same (lookup x N) (lookup x (writesOf rs)) (some-shape W x I rs k ∙ v .same x) in
       sym (runs-writesOf 0 (puts rs es) G)
       ∙ ap runs
       (ext-lookup 0 (writesOf (puts rs es)) N (ascending-writesOf 0 (puts rs es) G) (ascending-spliceAll [] es (in-space W L es t h) tt) same)
 
   -- the runs' bytes with a trailer
-  patch-of : (rs : List Run) → Shape W (inserts W [] es) rs
-      → runsThen (puts rs es) (trailer (length (inserts W [] es))) ≡ encode (netEffect es)
+  patch-of : (rs : List Run) → Shape W I rs
+      → runsThen (puts rs es) (trailer (length I)) ≡ encode (netEffect es)
   unfolding encode encodeRuns
   patch-of rs k =
-      ap (λ (z : ℕ). runsThen (puts rs es) (trailer z)) (sym (length-shape W (inserts W [] es) (puts rs es) (all-laid rs k .shape)))
+      ap (λ (z : ℕ). runsThen (puts rs es) (trailer z)) (sym (length-shape W I (puts rs es) (all-laid rs k .shape)))
       ∙ ap encodeRuns (puts-net rs k)
 
-  patch-length : (rs : List Run) → Shape W (inserts W [] es) rs → length (encode (netEffect es)) ≡ total (inserts W [] es) + 4
+  patch-length : (rs : List Run) → Shape W I rs → length (encode (netEffect es)) ≡ total I + 4
   patch-length rs k =
-      let I : List Interval = inserts W [] es in
       ap length (sym (patch-of rs k)) ∙ length-runs W I (puts rs es) (trailer (length I)) (all-laid rs k .shape)
       ∙ ap (λ (z : ℕ). total I + z) (length-trailer (length I))
 
@@ -131,28 +125,26 @@ bytes-zeros (suc n) = (omega arith, bytes-zeros n)
 -- ---- the laws
 
 -- the patch's length, known from the intervals alone
-pub made-length : (W L : ℕ) (es : List Element) → W + L ≤ 2 ^ 64 → Fits W L es
-    → length (encode (netEffect es)) ≡ total (inserts W [] es) + 4
-made-length W L es t h =
-    let I : List Interval = inserts W [] es in
+pub covered-length : (W L : ℕ) (es : List Element) (I : List Interval) → W + L ≤ 2 ^ 64 → Fits W L es → Covers W L es I
+    → length (encode (netEffect es)) ≡ total I + 4
+covered-length W L es I t h v =
     let m : List ℕ = zeros (total I) in
-    patch-length W L es t h (headed W I m) (headed-shape W I m (omega (arith, length-zeros (total I))) (bytes-zeros (total I)))
+    patch-length W L es I t h v (headed W I m) (headed-shape W I m (omega (arith, length-zeros (total I))) (bytes-zeros (total I)))
 
 -- the whole buffer
-pub made : (W L : ℕ) (es : List Element) (out : List ℕ) → W + L ≤ 2 ^ 64 → Fits W L es → Bytes out
-    → total (inserts W [] es) + 4 ≤ length out
-    → laid W (inserts W [] es) (heads W 0 0 (inserts W [] es) out) es ≡ encode (netEffect es) ++ drop (length (encode (netEffect es))) out
-made W L es out t h b room =
-    let I : List Interval = inserts W [] es in
+pub covered-made : (W L : ℕ) (es : List Element) (I : List Interval) (out : List ℕ) → W + L ≤ 2 ^ 64 → Fits W L es → Covers W L es I
+    → Bytes out → total I + 4 ≤ length out
+    → laid W I (heads W 0 0 I out) es ≡ encode (netEffect es) ++ drop (length (encode (netEffect es))) out
+covered-made W L es I out t h v b room =
     let rs : List Run = headed W I out in
     let k : Shape W I rs = headed-shape W I out (omega arith) b in
     let rest : List ℕ = drop (total I + 4) out in
     let w : 0 + length I ≡ length I = omega arith in
     ap (λ (z : List ℕ). laid W I z es) (heads-runs W 0 0 I [] out refl room)
-    ∙ all-laid W L es t h rs k .bytes (trailer (0 + length I) ++ rest)
+    ∙ all-laid W L es I t h v rs k .bytes (trailer (0 + length I) ++ rest)
     ∙ ap (λ (z : ℕ). runsThen (puts rs es) (trailer z ++ rest)) w
     ∙ runsThen-append (puts rs es) (trailer (length I)) rest
-    ∙ ap₂ (λ (z : List ℕ) (n : ℕ). z ++ drop n out) (patch-of W L es t h rs k) (sym (patch-length W L es t h rs k))
+    ∙ ap₂ (λ (z : List ℕ) (n : ℕ). z ++ drop n out) (patch-of W L es I t h v rs k) (sym (patch-length W L es I t h v rs k))
 
 -- ---- the buffer keeps its length
 

@@ -1,6 +1,6 @@
 -- Bytes put over a buffer: one part after another, and parts of a buffer in two. Assumes nothing.
 use mathlib.Core.Path.{_≡_, refl, sym, ap, ap₂, _∙_}
-use Prim.Native.Nat.{ℕ, _+_, _/_, _%_, _≤_, _<_}
+use Prim.Native.Nat.{ℕ, _+_, _-_, _/_, _%_, _≤_, _<_}
 use mathlib.Core.List.{List, [], _∷_, _++_, append-assoc}
 use native.Mathlib.Omega.{arith}
 use native.Mathlib.Numerals.{add-one}
@@ -93,3 +93,10 @@ over-at h t at d p e = ap (λ (z : ℕ). over (h ++ t) z p) e ∙ over-front h t
 pub over-start : (Y p : List ℕ) → over Y 0 p ≡ p ++ drop (length p) Y
 unfolding over
 over-start Y p = let w : 0 + length p ≡ length p = omega arith in ap (λ (z : ℕ). p ++ drop z Y) w
+
+-- a part of the buffer lent for p, and back
+pub part-over : (m p d : List ℕ) (at n : ℕ) → d ≡ p → length p ≡ n → take at m ++ (d ++ drop (at + n - at) (drop at m)) ≡ over m at p
+unfolding over
+part-over m p d at n e l =
+    let w : at + (at + n - at) ≡ at + length p = omega arith in
+    ap₂ (λ (x y : List ℕ). take at m ++ (x ++ y)) e (drop-drop (at + n - at) at m ∙ ap (λ (z : ℕ). drop z m) w)

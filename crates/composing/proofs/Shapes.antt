@@ -12,7 +12,7 @@ use Rattle.writes.specs.Elements.{over}
 use Rattle.writes.proofs.LittleEndian.{bytes-take, bytes-drop}
 use Rattle.writes.proofs.Lookup.{lookup-append}
 use Rattle.writes.proofs.Runs.{length-runThen, length-trailer}
-use Rattle.intervals.specs.Intervals.{Interval, interval, Separate}
+use Rattle.composing.specs.Intervals.{Interval, interval, Separate}
 use Rattle.composing.specs.Composing.{headBytes, heads, total}
 use Rattle.composing.proofs.Putting.{over-at, over-start}
 use Rattle.composing.proofs.Covering.{among, or, covered, isSome, some-writesAt, some-or}

@@ -7,7 +7,7 @@ use lib.Dec.{ltb}
 use Rattle.writes.specs.LittleEndian.{leBytes}
 use Rattle.writes.specs.Encoding.{trailer}
 use Rattle.writes.specs.Elements.{Element, over}
-use Rattle.intervals.specs.Intervals.{Interval, interval}
+use Rattle.composing.specs.Intervals.{Interval, interval}
 
 -- a run's mark, start and length
 unfoldable pub headBytes : ℕ → ℕ → List ℕ

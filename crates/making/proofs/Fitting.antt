@@ -9,7 +9,7 @@ use Rattle.writes.specs.LittleEndian.{Bytes}
 use Rattle.writes.specs.Elements.{Element, InWindow}
 use Rattle.elements.specs.Elements.{actives}
 use Rattle.elements.proofs.Stretches.{active-in}
-use Rattle.intervals.specs.Intervals.{Fits}
+use Rattle.composing.specs.Intervals.{Fits}
 
 module _ (on : ℕ → Bool) (el : ℕ → Element) (W L : ℕ) where
   pub inside-at : (n e : ℕ) → e < n → on e ≡ true → InWindow W L (actives on el n 0)

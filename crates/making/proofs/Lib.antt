@@ -1,7 +1,8 @@
 pub mod Finishing
 pub mod Fitting
-pub mod Gathering
-pub mod Laying
 pub mod Plans
 pub mod Single
 pub mod Outcomes
+pub mod Keying
+pub mod Collecting
+pub mod Spotting

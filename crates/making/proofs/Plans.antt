@@ -1,5 +1,5 @@
 -- The active elements of a scatter or quadword plan that lie in the window: few, each of some bytes. Assumes nothing.
-use mathlib.Core.Path.{_≡_, sym, ap, _∙_, subst}
+use mathlib.Core.Path.{_≡_, refl, sym, ap, _∙_, subst}
 use mathlib.Core.List.{List}
 use Prim.Native.Nat.{ℕ, _+_, _*_, _≤_, _<_}
 use native.Mathlib.Nat.{mul-le-mul-left}
@@ -12,10 +12,11 @@ use Rattle.writes.specs.Elements.{InWindow}
 use Rattle.writes.proofs.LittleEndian.{bytes-take, bytes-drop}
 use Rattle.elements.specs.Plans.{offsetBytes, vectorActive, vectorAddress, vectorElement, vectorElements, VectorSound}
 use Rattle.elements.specs.declared.VectorPlan.{VectorPlan}
-use Rattle.intervals.specs.Intervals.{Fits}
+use Rattle.composing.specs.Intervals.{Fits}
 use Rattle.checks.proofs.Spans.{bytes-long}
 use Rattle.making.specs.Steps.{EachInside}
 use Rattle.making.proofs.Fitting.{inside-at, fits-all}
+use Rattle.making.proofs.Keying.{Seen, seen-all}
 
 module _ (v : VectorPlan) (vb : ℕ) (s : VectorSound v vb) where
   pub vector-few : v .count ≤ 64
@@ -41,3 +42,9 @@ module _ (v : VectorPlan) (vb : ℕ) (s : VectorSound v vb) where
     vector-fits b =
         fits-all (vectorActive v governing) (vectorElement v offsets stored) W L (v .count)
         (λ e h. (omega (arith, bytes-long v vb s e h offsets stored q, s .some), bytes-take (v .size) (drop (e * v .step) stored) (bytes-drop (e * v .step) stored b))) w
+
+    pub vector-seen : Seen W L (v .size) 0 (vectorElements v offsets governing stored)
+    unfolding vectorElements vectorElement
+    vector-seen =
+        seen-all (vectorActive v governing) (vectorElement v offsets stored) W L (v .size) (λ e. refl) (v .count) vector-few
+        (λ e h t. let f = vector-inside e h t in (f .0, f .1, bytes-long v vb s e h offsets stored q))

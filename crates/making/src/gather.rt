@@ -1,13 +1,22 @@
-// The places that the active elements of a scatter or quadword store write, as intervals in two lent arrays. Data isn't looked at.
+// The places that the active elements of a scatter or quadword store write, as keys. Data isn't looked at.
 ghost use mathlib.Core.Path.{_≡_};
 ghost use mathlib.Core.List.{List};
-ghost use Prim.Native.Nat.{ℕ, _/_, _≤_};
+ghost use Prim.Native.Nat.{ℕ, _+_, _*_, _/_, _≤_, _<_};
 ghost use lib.ListN.{length};
 ghost use Rattle.elements.specs.Plans.{VectorSound, vectorActive, vectorAddress, vectorElements};
-ghost use Rattle.making.specs.Steps.{EachInside, Gathered};
+ghost use Rattle.ordering.specs.Keys.{entries};
+ghost use Rattle.making.specs.Steps.{EachInside, keysOf};
 use elements::VectorPlan;
 
-// Answers how many intervals there are.
+// A place in the window and an element's number as one number.
+fn key(place: u64, e: usize) -> u32
+    requires { ⌜ (place ≤ 65536) × (e < 256) ⌝ }
+    ensures { λ r. ⌜ r ≡ place * 256 + e ⌝ }
+{
+    (place * 256) as u32 + e as u32
+}
+
+// The key of each active element. Answers how many there are.
 pub fn gather_vector(
     v: VectorPlan,
     vb: usize,
@@ -15,17 +24,16 @@ pub fn gather_vector(
     governing: &[u8],
     base: u64,
     room: u64,
-    starts: &mut [u64],
-    lens: &mut [u64],
+    keys: &mut [u32],
 ) -> usize
     requires { ⌜ VectorSound v vb ⌝ }
     requires { ⌜ (length (now offsets) ≡ vb) × (length (now governing) ≡ vb / 8) ⌝ }
-    requires { ⌜ (v .count ≤ length (now starts)) × (v .count ≤ length (now lens)) × (room ≤ 65536) ⌝ }
+    requires { ⌜ (v .count ≤ length (now keys)) × (room ≤ 65536) ⌝ }
     requires { ⌜ EachInside (vectorActive v (now governing)) (vectorAddress v (now offsets)) (v .size) (v .count) base room ⌝ }
-    ensures { λ r. ⌜ ((stored : List ℕ) → length stored ≡ vb → Gathered base room (vectorElements v (now (offsets .entry)) (now (governing .entry)) stored) (now (starts .exit)) (now (lens .exit)) r) ⌝ }
+    ensures { λ r. ⌜ r ≤ v .count ⌝ }
+    ensures { λ r. ⌜ ((stored : List ℕ) → entries (now (keys .exit)) 0 r ≡ keysOf base (vectorElements v (now (offsets .entry)) (now (governing .entry)) stored)) ⌝ }
 {
     let count = v.count;
-    let size = v.size as u64;
     let mut n: usize = 0;
     let mut e: usize = 0;
     while e < count {
@@ -33,8 +41,9 @@ pub fn gather_vector(
             e += 1;
             continue;
         }
-        let s = elements::vector_address(v, offsets, e) - base;
-        n = intervals::take_in(starts, lens, n, room, s, size);
+        let k = key(elements::vector_address(v, offsets, e) - base, e);
+        keys[n] = k;
+        n += 1;
         e += 1;
     }
     n

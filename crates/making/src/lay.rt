@@ -1,13 +1,20 @@
-// The bytes of the active elements of a scatter or quadword store at their places in the patch, in element order: a later element overwrites an earlier one.
+// The bytes of a scatter or quadword store's active elements at their spots in the patch, in element order: a later element overwrites an earlier one.
 ghost use mathlib.Core.Path.{_≡_};
 ghost use Prim.Native.Nat.{_*_, _/_, _≤_};
 ghost use lib.ListN.{length};
-ghost use Rattle.elements.specs.Plans.{VectorSound, vectorActive, vectorAddress, vectorElements};
-ghost use Rattle.intervals.specs.Arrays.{intervalsAt};
+ghost use Rattle.elements.specs.Plans.{VectorSound, vectorElements};
 ghost use Rattle.composing.specs.Composing.{laid};
-ghost use Rattle.making.specs.Steps.{EachInside, Composed};
+ghost use Rattle.ordering.specs.Keys.{entries};
+ghost use Rattle.keyed.specs.Keyed.{runsOf};
+ghost use Rattle.making.specs.Steps.{Spotted};
 use checks::Counts;
 use elements::VectorPlan;
+
+fn index(x: u32) -> usize
+    ensures { λ r. ⌜ r ≡ x ⌝ }
+{
+    x as usize
+}
 
 // Answers the elements laid and their bytes.
 pub fn lay_vector(
@@ -17,25 +24,21 @@ pub fn lay_vector(
     governing: &[u8],
     stored: &[u8],
     base: u64,
-    room: u64,
-    starts: &[u64],
-    lens: &[u64],
-    places: &[u64],
+    keys: &[u32],
     n: usize,
+    spots: &[u32],
     patch: &mut [u8],
 ) -> Counts
     requires { ⌜ VectorSound v vb ⌝ }
-    requires { ⌜ (length (now offsets) ≡ vb) × (length (now governing) ≡ vb / 8) × (length (now stored) ≡ vb) ⌝ }
-    requires { ⌜ EachInside (vectorActive v (now governing)) (vectorAddress v (now offsets)) (v .size) (v .count) base room ⌝ }
-    requires { ⌜ Composed base room (vectorElements v (now offsets) (now governing) (now stored)) (now starts) (now lens) (now places) n (now patch) ⌝ }
+    requires { ⌜ (length (now governing) ≡ vb / 8) × (length (now stored) ≡ vb) × (v .count ≤ length (now spots)) ⌝ }
+    requires { ⌜ Spotted (now spots) base (runsOf (v .size) (entries (now keys) 0 n)) (length (now patch)) (vectorElements v (now offsets) (now governing) (now stored)) ⌝ }
     ensures { λ r. ⌜ r .elements ≡ length (vectorElements v (now (offsets .entry)) (now (governing .entry)) (now (stored .entry))) ⌝ }
     ensures { λ r. ⌜ r .bytes ≡ length (vectorElements v (now (offsets .entry)) (now (governing .entry)) (now (stored .entry))) * v .size ⌝ }
-    ensures { λ _. ⌜ now (patch .exit) ≡ laid base (intervalsAt (now (starts .entry)) (now (lens .entry)) 0 n) (now (patch .entry)) (vectorElements v (now (offsets .entry)) (now (governing .entry)) (now (stored .entry))) ⌝ }
+    ensures { λ _. ⌜ now (patch .exit) ≡ laid base (runsOf (v .size) (entries (now (keys .entry)) 0 n)) (now (patch .entry)) (vectorElements v (now (offsets .entry)) (now (governing .entry)) (now (stored .entry))) ⌝ }
 {
     let count = v.count;
     let size = v.size;
     let step = v.step;
-    let mut hint: usize = 0;
     let mut elements: u64 = 0;
     let mut bytes: u64 = 0;
     let mut e: usize = 0;
@@ -44,20 +47,11 @@ pub fn lay_vector(
             e += 1;
             continue;
         }
-        let s = elements::vector_address(v, offsets, e) - base;
+        let at = index(spots[e]);
+        let to = at + size;
         let from = e * step;
         let end = from + size;
-        hint = composing::place(
-            starts,
-            lens,
-            places,
-            n,
-            room,
-            patch,
-            s,
-            &stored[from..end],
-            hint,
-        );
+        writes::copy(&mut patch[at..to], &stored[from..end]);
         elements += 1;
         bytes += size as u64;
         e += 1;

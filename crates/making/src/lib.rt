@@ -52,24 +52,15 @@ fn make_vector(
 {
     let offsets = elements::register_of(z, vb, v.offsets);
     let governing = elements::register_of(p, vb / 8, v.governing);
-    let mut starts = [0u64; 64];
-    let mut lens = [0u64; 64];
-    let n = gather_vector(
-        v,
-        vb,
-        offsets,
-        governing,
-        base,
-        room,
-        &mut starts,
-        &mut lens,
-    );
-    let mut places = [0u64; 64];
-    let length = composing::size_up(&starts, &lens, n, room, &mut places);
-    if patch.len() < length {
+    let mut keys = [0u32; 64];
+    let n = gather_vector(v, vb, offsets, governing, base, room, &mut keys);
+    ordering::order(&mut keys, n);
+    let size = v.size as u64;
+    if !keyed::has_room(&keys, n, size, room, patch.len()) {
         return Making::NoRoom;
     }
-    composing::put_heads(base, &starts, &lens, n, room, patch);
+    let mut spots = [0u32; 64];
+    let length = keyed::compose(base, &keys, n, size, room, &mut spots, patch);
     let stored = elements::register_of(z, vb, v.stored);
     let counts = lay_vector(
         v,
@@ -78,11 +69,9 @@ fn make_vector(
         governing,
         stored,
         base,
-        room,
-        &starts,
-        &lens,
-        &places,
+        &keys,
         n,
+        &spots,
         patch,
     );
     Making::Done {

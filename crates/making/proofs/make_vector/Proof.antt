@@ -1,24 +1,26 @@
--- From the gathered intervals to the patch. Assumes nothing.
+-- From the gathered keys to the patch. Assumes nothing.
 use mathlib.Core.Path.{_≡_, refl, sym, ap, ap₂, _∙_, subst}
 use mathlib.Core.List.{List}
 use Prim.Native.Nat.{ℕ, _+_, _*_, _/_, _^_, _≤_, _<_}
 use native.Mathlib.Omega.{arith}
 use lib.ListN.{length, drop}
+use borrow.Author.Tests.{not-true, not-false}
 use Rattle.writes.specs.Elements.{Element, InWindow}
 use Rattle.writes.proofs.LittleEndian.{bytes-at, bytes-take, bytes-drop}
 use Rattle.writes.proofs.Windows.{window-inv}
-use Rattle.intervals.specs.Intervals.{Interval, Fits}
-use Rattle.intervals.specs.Arrays.{intervalsAt}
+use Rattle.composing.specs.Intervals.{Interval, Fits}
+use Rattle.ordering.specs.Keys.{entries, sorted, Distinct}
 use Rattle.composing.specs.Composing.{heads, laid}
-use Rattle.composing.specs.Places.{Sized}
+use Rattle.keyed.specs.Keyed.{runsOf, Ordered, Numbered}
 use Rattle.elements.specs.Machine.{register}
 use Rattle.elements.specs.Plans.{vectorActive, vectorAddress, vectorElements}
 use Rattle.checks.specs.Steps.{vectorsIn}
 use Rattle.checks.proofs.Spans.{z-room, z-long, p-room, p-long}
-use Rattle.making.specs.Steps.{EachInside, Gathered, Composed, MadeOf}
+use Rattle.making.specs.Steps.{EachInside, keysOf, Spotted, MadeOf}
 use Rattle.making.specs.declared.Making.the-variants as M
-use Rattle.making.proofs.Plans.{vector-few, vector-inside, vector-fits}
-use Rattle.making.proofs.Finishing.{no-room, composed, made-of}
+use Rattle.making.proofs.Plans.{vector-few, vector-inside, vector-fits, vector-seen}
+use Rattle.making.proofs.Keying.{Seen, keys-distinct, keys-ordered, keys-apart}
+use Rattle.making.proofs.Finishing.{keyed-no-room, keyed-spotted, keyed-made}
 use Rattle.making.proofs.make_vector.Statement.{statement}
 use Rattle.making.proofs.make_vector.Tie as tie
 
@@ -67,81 +69,75 @@ register-of-requires-2 c κs =
 slice-aggregate-gather-vector : tie.Need-slice-aggregate-gather-vector
 slice-aggregate-gather-vector c = refl
 
-slice-aggregate-gather-vector-2 : tie.Need-slice-aggregate-gather-vector-2
-slice-aggregate-gather-vector-2 c = refl
-
 gather-vector-requires : tie.Need-gather-vector-requires
 gather-vector-requires c κs =
-    let a = c .before .before .before .before .before .before .before in
-    let o = c .before .before .before .register-of .ensures in
-    let g = c .before .before .register-of2 .ensures in
-    let few = vector-few (a .args .v) (a .args .vb) (a .pre .0) in (
+    let a = c .before .before .before .before .before .before in
+    let o = c .before .before .register-of .ensures in
+    let g = c .before .register-of2 .ensures in (
       a .pre .0,
       (
         (ap length o ∙ reg-long a (a .args .v .offsets) (a .pre .0 .offsets), ap length g ∙ pred-long a),
         (
-          (few, few, window-inv (a .args .base) (a .args .room) (a .pre .1 .1 .0) .0),
-          inside a (c .before .before .before .register-of .result .now) (c .before .before .register-of2 .result .now) o g,
+          (vector-few (a .args .v) (a .args .vb) (a .pre .0), window-inv (a .args .base) (a .args .room) (a .pre .1 .1 .0) .0),
+          inside a (c .before .before .register-of .result .now) (c .before .register-of2 .result .now) o g,
         ),
       ),
     )
 
--- ---- after gathering: the intervals
+-- ---- after gathering: the keys
 
 abbrev At : Type 0
 At = tie.After-gather-vector
 
 abbrev st : At → tie.Start
-st k = k .before .before .before .before .before .before .before .before
+st k = k .before .before .before .before .before .before .before
 
 abbrev A : At → List ℕ
 A k = k .gather-vector .last .1 .1 .1 .1 .1 .1 .0
 
-abbrev N : At → List ℕ
-N k = k .gather-vector .last .1 .1 .1 .1 .1 .1 .1 .0
-
 abbrev n : At → ℕ
 n k = k .gather-vector .result
-
-abbrev I : At → List Interval
-I k = intervalsAt (A k) (N k) 0 (n k)
 
 long-A : (k : At) → 64 ≡ length (A k)
 long-A k = sym (k .gather-vector .kept .1 .1 .1 .1 .1 .1 .0)
 
-long-N : (k : At) → 64 ≡ length (N k)
-long-N k = sym (k .gather-vector .kept .1 .1 .1 .1 .1 .1 .1 .0)
-
 -- the registers read, and the elements of a source d
 abbrev offsets : At → List ℕ
-offsets k = k .before .before .before .before .register-of .result .now
+offsets k = k .before .before .before .register-of .result .now
 
 abbrev governing : At → List ℕ
-governing k = k .before .before .before .register-of2 .result .now
+governing k = k .before .before .register-of2 .result .now
 
 abbrev with : At → List ℕ → List Element
 with k d = vectorElements (st k .args .v) (offsets k) (governing k) d
 
 offsets-are : (k : At) → offsets k ≡ reg (st k) (st k .args .v .offsets)
-offsets-are k = k .before .before .before .before .register-of .ensures
+offsets-are k = k .before .before .before .register-of .ensures
 
 governing-is : (k : At) → governing k ≡ pred (st k)
-governing-is k = k .before .before .before .register-of2 .ensures
+governing-is k = k .before .before .register-of2 .ensures
 
 named : (k : At) (d : List ℕ) → d ≡ reg (st k) (st k .args .v .stored) → with k d ≡ es (st k)
 named k d q =
     ap₂ (λ (o g : List ℕ). vectorElements (st k .args .v) o g d) (offsets-are k) (governing-is k)
     ∙ ap (vectorElements (st k .args .v) (reg (st k) (st k .args .v .offsets)) (pred (st k))) q
 
-gathered : (k : At) → Gathered (st k .args .base) (st k .args .room) (es (st k)) (A k) (N k) (k .gather-vector .result)
+gathered : (k : At) → entries (A k) 0 (n k) ≡ keysOf (st k .args .base) (es (st k))
 gathered k =
-    let a = st k in
-    let d = reg a (a .args .v .stored) in
-    subst (λ (y : List Element). Gathered (a .args .base) (a .args .room) y (A k) (N k) (k .gather-vector .result)) (named k d (λ i. d))
-    (k .gather-vector .ensures d (reg-long a (a .args .v .stored) (a .pre .0 .stored)))
+    let d = reg (st k) (st k .args .v .stored) in
+    k .gather-vector .ensures .1 d ∙ ap (keysOf (st k .args .base)) (named k d refl)
 
 top : (k : At) → st k .args .base + st k .args .room ≤ 2 ^ 64
 top k = window-inv (st k .args .base) (st k .args .room) (st k .pre .1 .1 .0) .1
+
+low : (k : At) → st k .args .room ≤ 65536
+low k = window-inv (st k .args .base) (st k .args .room) (st k .pre .1 .1 .0) .0
+
+few : (k : At) → n k ≤ 64
+few k = omega (arith, k .gather-vector .ensures .0, vector-few (st k .args .v) (st k .args .vb) (st k .pre .0))
+
+some : (k : At) → 1 ≤ st k .args .v .size
+some k = omega (arith, st k .pre .0 .some)
 
 fits : (k : At) → Fits (st k .args .base) (st k .args .room) (es (st k))
 fits k =
@@ -150,128 +146,176 @@ fits k =
     vector-fits (a .args .v) (a .args .vb) (a .pre .0) (reg a (a .args .v .offsets)) (pred a) (reg a r) (reg-long a r (a .pre .0 .stored))
     (a .args .base) (a .args .room) (a .pre .1 .1 .1)
     (bytes-take (a .args .vb) (drop (r * a .args .vb) (a .args .z .now)) (bytes-drop (r * a .args .vb) (a .args .z .now)
-    (bytes-at (a .args .z .now) (λ i. k .before .before .before .before .before .before .before .shared-slice-known .given i .fits))))
+    (bytes-at (a .args .z .now) (λ i. k .before .before .before .before .before .before .shared-slice-known .given i .fits))))
 
-long : (k : At) (d : List ℕ) → d ≡ reg (st k) (st k .args .v .stored)
-    → (length (offsets k) ≡ st k .args .vb) × (length (governing k) ≡ st k .args .vb / 8) × (length d ≡ st k .args .vb)
-long k d q =
+seen : (k : At) → Seen (st k .args .base) (st k .args .room) (st k .args .v .size) 0 (es (st k))
+seen k =
+    let a = st k in
+    let r = a .args .v .stored in
+    vector-seen (a .args .v) (a .args .vb) (a .pre .0) (reg a (a .args .v .offsets)) (pred a) (reg a r) (reg-long a r (a .pre .0 .stored))
+    (a .args .base) (a .args .room) (a .pre .1 .1 .1)
+
+slice-aggregate-order : tie.Need-slice-aggregate-order
+slice-aggregate-order c = long-A (c .before .before)
+
+order-requires : tie.Need-order-requires
+order-requires c κs =
+    let k = c .before .before in
     let a = st k in (
-      ap length (offsets-are k) ∙ reg-long a (a .args .v .offsets) (a .pre .0 .offsets),
-      ap length (governing-is k) ∙ pred-long a,
-      ap length q ∙ reg-long a (a .args .v .stored) (a .pre .0 .stored),
+      omega (arith, few k, long-A k),
+      few k,
+      subst Distinct (sym (gathered k)) (keys-distinct (a .args .base) (a .args .room) (a .args .v .size) 0 (es a) (seen k)),
     )
 
--- over a source d, places P and the patch's length r
-module _ (k : At) (P : List ℕ) (r : ℕ) (z : Sized (A k) (N k) P (n k) r) (d : List ℕ) (q : d ≡ reg (st k) (st k .args .v .stored)) where
-  ready : (out : List ℕ) → r ≤ length out → Composed (st k .args .base) (st k .args .room) (with k d) (A k) (N k) P (n k) out
-  ready out h =
-      subst (λ (y : List Element). Composed (st k .args .base) (st k .args .room) y (A k) (N k) P (n k) out) (sym (named k d q))
-      (composed (st k .args .base) (st k .args .room) (es (st k)) (top k) (fits k) (A k) (N k) P (n k) r (gathered k) z out h)
+-- ---- after ordering
 
-  done : (x b : ℕ) (out₁ out₂ : List ℕ) → r ≤ length (st k .args .patch .now) → out₁ ≡ heads (st k .args .base) 0 0 (I k)
-      (st k .args .patch .now)
-      → out₂ ≡ laid (st k .args .base) (I k) out₁ (with k d) → x ≡ length (with k d) → b ≡ length (with k d) * st k .args .v .size
-      → MadeOf (es (st k)) (st k .args .v .size) (st k .args .patch .now) (M.Done x b r) out₂
-  done x b out₁ out₂ h p o i j =
-      let a = st k in
-      made-of (a .args .base) (a .args .room) (es a) (top k) (fits k) (A k) (N k) P (n k) r (gathered k) z (a .args .v .size) x b
-      (a .args .patch .now)
-      out₁ out₂ (bytes-at (a .args .patch .now) (λ i. k .before .before .before .before .before .slice-known .given i .fits)) h p
-      (o ∙ ap (laid (a .args .base) (I k) out₁) (named k d q)) (i ∙ ap length (named k d q))
-      (j ∙ ap (λ (y : List Element). length y * a .args .v .size) (named k d q))
+abbrev In : Type 0
+In = tie.After-order
 
-slice-aggregate-size-up : tie.Need-slice-aggregate-size-up
-slice-aggregate-size-up c = long-A (c .before .before .before)
+abbrev at : In → At
+at o = o .before .before .before
 
-slice-aggregate-size-up-2 : tie.Need-slice-aggregate-size-up-2
-slice-aggregate-size-up-2 c = long-N (c .before .before .before .before)
+abbrev K : In → List ℕ
+K o = o .order .last .0
 
-slice-aggregate-size-up-3 : tie.Need-slice-aggregate-size-up-3
-slice-aggregate-size-up-3 c = refl
+long-K : (o : In) → 64 ≡ length (K o)
+long-K o = long-A (at o) ∙ sym (o .order .kept .0)
 
-size-up-requires : tie.Need-size-up-requires
-size-up-requires c κs =
-    let k = c .before .before .before .before .before in
-    (gathered k .held, omega (arith, gathered k .held .in-starts, long-A k))
+ordered : (o : In) → entries (K o) 0 (n (at o)) ≡ sorted (keysOf (st (at o) .args .base) (es (st (at o))))
+ordered o = o .order .ensures ∙ ap sorted (gathered (at o))
 
--- ---- after sizing up: the places
+rising : (o : In) → Ordered (K o) (n (at o)) (st (at o) .args .v .size) (st (at o) .args .room)
+rising o =
+    let k = at o in
+    let a = st k in
+    keys-ordered (a .args .base) (a .args .room) (a .args .v .size) (some k) (es a) (seen k) (K o) (n k) (ordered o)
+    (omega (arith, few k, long-K o)) (low k)
 
-abbrev P : tie.After-size-up → List ℕ
-P s = s .size-up .last .1 .1 .1 .1 .0
+numbered : (o : In) → Numbered (K o) (n (at o)) 64
+numbered o =
+    let k = at o in
+    let a = st k in
+    keys-apart (a .args .base) (a .args .room) (a .args .v .size) (some k) (es a) (seen k) (K o) (n k) (ordered o)
 
-long-P : (s : tie.After-size-up) → 64 ≡ length (P s)
-long-P s = sym (s .size-up .kept .1 .1 .1 .1 .0)
+slice-aggregate-has-room : tie.Need-slice-aggregate-has-room
+slice-aggregate-has-room c = long-K (c .before .before)
+
+has-room-requires : tie.Need-has-room-requires
+has-room-requires c κs = let o = c .before .before in (rising o, few (at o))
 
 returns : tie.Need-returns
 returns c =
-    let s = c .before .before in
-    let k = s .before .before .before .before .before .before in
-    no-room (st k .args .base) (st k .args .room) (es (st k)) (top k) (fits k) (A k) (N k) (P s) (n k) (s .size-up .result) (gathered k)
-    (s .size-up .ensures) (st k .args .v .size) (st k .args .patch .now) (omega (arith, c .if1 .taken))
+    let o = c .before .before .before .before in
+    let k = at o in
+    let a = st k in
+    keyed-no-room (a .args .base) (a .args .room) (a .args .v .size) (es a) (top k) (fits k) (some k) (seen k) (K o) (n k) (ordered o)
+    (a .args .patch .now) (c .before .has-room .ensures .1 (not-true (c .before .has-room .result) (c .if1 .taken)))
 
-slice-aggregate-put-heads : tie.Need-slice-aggregate-put-heads
-slice-aggregate-put-heads c = long-A (c .before .before .before .before .before .before .before .before .before)
+slice-aggregate-compose : tie.Need-slice-aggregate-compose
+slice-aggregate-compose c = long-K (c .before .before .before .before .before)
 
-slice-aggregate-put-heads-2 : tie.Need-slice-aggregate-put-heads-2
-slice-aggregate-put-heads-2 c = long-N (c .before .before .before .before .before .before .before .before .before .before)
+slice-aggregate-compose-2 : tie.Need-slice-aggregate-compose-2
+slice-aggregate-compose-2 c = refl
 
-put-heads-requires : tie.Need-put-heads-requires
-put-heads-requires c κs =
-    let s = c .before .before .before .before .before in
-    let k = s .before .before .before .before .before .before in
-    (gathered k .held, top k, omega (arith, s .size-up .ensures .size, c .before .before .before .if1 .left))
+compose-requires : tie.Need-compose-requires
+compose-requires c κs =
+    let o = c .before .before .before .before .before .before .before in
+    let h = c .before .before .before .before .has-room in
+    ((rising o, numbered o), (top (at o), h .ensures .0 (not-false (h .result) (c .before .before .before .if1 .left))))
+
+-- ---- after composing: the spots
+
+abbrev To : Type 0
+To = tie.After-compose
+
+abbrev by : To → In
+by m = m .before .before .before .before .before .before .before .before
+
+abbrev P : To → List ℕ
+P m = m .compose .last .1 .1 .1 .1 .1 .0
+
+abbrev out : To → List ℕ
+out m = m .compose .last .1 .1 .1 .1 .1 .1 .0
+
+abbrev r : To → ℕ
+r m = m .compose .result
+
+long-P : (m : To) → 64 ≡ length (P m)
+long-P m = sym (m .compose .kept .1 .1 .1 .1 .1 .0)
+
+long-out : (m : To) → length (out m) ≡ length (st (at (by m)) .args .patch .now)
+long-out m = m .compose .kept .1 .1 .1 .1 .1 .1 .0
+
+abbrev base : To → tie.Start
+base m = st (at (by m))
+
+abbrev I : To → List Interval
+I m = runsOf (base m .args .v .size) (entries (K (by m)) 0 (n (at (by m))))
+
+room : (m : To) → r m ≤ length (base m .args .patch .now)
+room m =
+    let h = m .before .before .before .before .before .has-room in
+    omega (arith, m .compose .ensures .0 .long, h .ensures .0 (not-false (h .result) (m .before .before .before .before .if1 .left)))
+
+-- over a source d
+module _ (m : To) (d : List ℕ) (q : d ≡ reg (base m) (base m .args .v .stored)) where
+  spotted : (l : ℕ) → r m ≤ l → Spotted (P m) (base m .args .base) (I m) l (with (at (by m)) d)
+  spotted l h =
+      let k = at (by m) in
+      let a = base m in
+      subst (Spotted (P m) (a .args .base) (I m) l) (sym (named k d q))
+      (keyed-spotted (a .args .base) (a .args .room) (a .args .v .size) (es a) (top k) (fits k) (some k) (seen k) (K (by m)) (n k) (ordered (by m))
+      (P m) (r m) (m .compose .ensures .0) l h)
+
+  done : (x b : ℕ) (out₁ out₂ : List ℕ) → r m ≤ length (base m .args .patch .now)
+      → out₁ ≡ heads (base m .args .base) 0 0 (I m) (base m .args .patch .now)
+      → out₂ ≡ laid (base m .args .base) (I m) out₁ (with (at (by m)) d) → x ≡ length (with (at (by m)) d)
+      → b ≡ length (with (at (by m)) d) * base m .args .v .size
+      → MadeOf (es (base m)) (base m .args .v .size) (base m .args .patch .now) (M.Done x b (r m)) out₂
+  done x b out₁ out₂ h p o i j =
+      let k = at (by m) in
+      let a = base m in
+      keyed-made (a .args .base) (a .args .room) (a .args .v .size) (es a) (top k) (fits k) (some k) (seen k) (K (by m)) (n k) (ordered (by m))
+      (P m) (r m) (m .compose .ensures .0) x b (a .args .patch .now) out₁ out₂
+      (bytes-at (a .args .patch .now) (λ i. k .before .before .before .before .slice-known .given i .fits)) h p
+      (o ∙ ap (laid (a .args .base) (I m) out₁) (named k d q)) (i ∙ ap length (named k d q))
+      (j ∙ ap (λ (y : List Element). length y * a .args .v .size) (named k d q))
 
 register-of-requires-3 : tie.Need-register-of-requires-3
-register-of-requires-3 c κs =
-    let a = st (c .before .before .before .before .before .before .before .before .before .before .before .before .before .before) in
-    reg-room a (a .args .v .stored) (a .pre .0 .stored)
+register-of-requires-3 c κs = let a = base (c .before .before .before) in reg-room a (a .args .v .stored) (a .pre .0 .stored)
 
 slice-aggregate-lay-vector : tie.Need-slice-aggregate-lay-vector
-slice-aggregate-lay-vector c =
-    long-A (c .before .before .before .before .before .before .before .before .before .before .before .before .before .before .before .before)
+slice-aggregate-lay-vector c = long-K (by (c .before .before .before .before .before))
 
 slice-aggregate-lay-vector-2 : tie.Need-slice-aggregate-lay-vector-2
-slice-aggregate-lay-vector-2 c =
-    long-N (c .before .before .before .before .before .before .before .before .before .before .before .before .before .before .before .before .before)
-
-slice-aggregate-lay-vector-3 : tie.Need-slice-aggregate-lay-vector-3
-slice-aggregate-lay-vector-3 c = long-P (c .before .before .before .before .before .before .before .before .before .before .before .before)
+slice-aggregate-lay-vector-2 c = long-P (c .before .before .before .before .before .before)
 
 lay-vector-requires : tie.Need-lay-vector-requires
 lay-vector-requires c κs =
-    let s = c .before .before .before .before .before .before .before .before .before .before .before .before .before in
-    let k = s .before .before .before .before .before .before in
-    let a = st k in
-    let h = c .before .before .before .before .before .before .before .put-heads in
-    let d = c .before .before .before .before .register-of3 in
-    let out = h .last .1 .1 .1 .1 .1 .0 in (
+    let m = c .before .before .before .before .before .before .before in
+    let a = base m in
+    let d = c .before .before .before .register-of3 in (
       a .pre .0,
       (
-        long k (d .result .now) (d .ensures),
         (
-          inside a (offsets k) (governing k) (offsets-are k) (governing-is k),
-          ready k (P s) (s .size-up .result) (s .size-up .ensures) (d .result .now) (d .ensures) out
-              (omega (arith, h .kept .1 .1 .1 .1 .1 .0, c .before .before .before .before .before .before .before .before .before .before .before .if1 .left)),
+          ap length (governing-is (at (by m))) ∙ pred-long a,
+          ap length (d .ensures) ∙ reg-long a (a .args .v .stored) (a .pre .0 .stored),
+          omega (arith, vector-few (a .args .v) (a .args .vb) (a .pre .0), long-P m),
         ),
+        spotted m (d .result .now) (d .ensures) _ (omega (arith, long-out m, room m)),
       ),
     )
 
 same-length : tie.Need-same-length
-same-length c =
-    c .before .before .lay-vector .kept .1 .1 .1 .1 .1 .1 .1 .1 .1 .1 .1 .0
-    ∙ c .before .before .before .before .before .before .before .before .before .before .put-heads .kept .1 .1 .1 .1 .1 .0
+same-length c = c .before .before .lay-vector .kept .1 .1 .1 .1 .1 .1 .1 .1 .1 .0 ∙ long-out (c .before .before .before .before .before .before .before .before .before .before)
 
 returns-2 : tie.Need-returns-2
 returns-2 c =
-    let s = c .before .before .before .before .before .before .before .before .before .before .before .before .before .before .before .before in
-    let k = s .before .before .before .before .before .before in
-    let h = c .before .before .before .before .before .before .before .before .before .before .put-heads in
+    let m = c .before .before .before .before .before .before .before .before .before .before in
     let l = c .before .before .lay-vector in
-    let d = c .before .before .before .before .before .before .before .register-of3 in
-    done k (P s) (s .size-up .result) (s .size-up .ensures) (d .result .now) (d .ensures) (l .result .elements) (l .result .bytes)
-    (h .last .1 .1 .1 .1 .1 .0) (l .last .1 .1 .1 .1 .1 .1 .1 .1 .1 .1 .1 .0)
-    (omega (arith, c .before .before .before .before .before .before .before .before .before .before .before .before .before .before .if1 .left))
-    (h .ensures) (l .ensures .1 .1) (l .ensures .0) (l .ensures .1 .0)
+    let d = c .before .before .before .before .before .before .register-of3 in
+    done m (d .result .now) (d .ensures) (l .result .elements) (l .result .bytes) (out m) (l .last .1 .1 .1 .1 .1 .1 .1 .1 .1 .0) (room m)
+    (m .compose .ensures .1) (l .ensures .1 .1) (l .ensures .0) (l .ensures .1 .0)
 
 pub make-vector-spec : {M : Type 1} → statement M
 make-vector-spec =
@@ -280,20 +324,18 @@ make-vector-spec =
     register-of-requires
     register-of-requires-2
     slice-aggregate-gather-vector
-    slice-aggregate-gather-vector-2
     gather-vector-requires
-    slice-aggregate-size-up
-    slice-aggregate-size-up-2
-    slice-aggregate-size-up-3
-    size-up-requires
+    slice-aggregate-order
+    order-requires
+    slice-aggregate-has-room
+    has-room-requires
     returns
-    slice-aggregate-put-heads
-    slice-aggregate-put-heads-2
-    put-heads-requires
+    slice-aggregate-compose
+    slice-aggregate-compose-2
+    compose-requires
     register-of-requires-3
     slice-aggregate-lay-vector
     slice-aggregate-lay-vector-2
-    slice-aggregate-lay-vector-3
     lay-vector-requires
     same-length
     returns-2)

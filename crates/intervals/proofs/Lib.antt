@@ -1,4 +1,0 @@
-pub mod Inserting
-pub mod Moving
-pub mod Arrays
-pub mod Gathering
