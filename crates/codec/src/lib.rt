@@ -82,6 +82,20 @@ fn quadword_numbers(f: QuadwordFields) -> [u64; 8]
     ]
 }
 
+// A store as eight numbers.
+pub fn numbers_of(store: Store) -> [u64; 8]
+    ensures { λ r. ⌜ r ≡ storeNumbers store ⌝ }
+{
+    match store {
+        Store::Scatter(f) => {
+            let extension = f.extension;
+            scatter_numbers(f, number_of(extension))
+        }
+        Store::Strided(f) => strided_numbers(f, elements::bits_of(f.multiple)),
+        Store::Quadword(f) => quadword_numbers(f),
+    }
+}
+
 // The store of class k + 1 that a word is, as eight numbers.
 pub fn numbers_at(k: usize, word: u32) -> [u64; 8]
     requires { ⌜ k < 12 ⌝ }
@@ -89,15 +103,12 @@ pub fn numbers_at(k: usize, word: u32) -> [u64; 8]
 {
     let feature = encoding::table::feature_at(k);
     if feature == 0 {
-        let f = encoding::scatter(k, word);
-        let extension = f.extension;
-        return scatter_numbers(f, number_of(extension));
+        return numbers_of(Store::Scatter(encoding::scatter(k, word)));
     }
     if feature == 1 {
-        let f = encoding::strided(k, word);
-        return strided_numbers(f, elements::bits_of(f.multiple));
+        return numbers_of(Store::Strided(encoding::strided(k, word)));
     }
-    quadword_numbers(encoding::quadword(k, word))
+    numbers_of(Store::Quadword(encoding::quadword(k, word)))
 }
 
 fn extension_of(n: u64) -> Extension

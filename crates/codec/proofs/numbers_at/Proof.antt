@@ -1,11 +1,6 @@
 -- By the class's feature. Assumes nothing.
 use mathlib.Core.Path.{_∙_, ap}
-use mathlib.Core.List.{_∷_, []}
-use Prim.Native.Nat.{ℕ}
 use native.Mathlib.Omega.{arith}
-use mir.Syntax.{w64}
-use mir.Val.{ofZ}
-use mir.Facts.{toZ-ofZ}
 use Rattle.encoding.specs.Answers.{storeNumbers}
 use Rattle.encoding.specs.Classes.{SVE, SME2, SVE2p1}
 use Rattle.encoding.proofs.Reading.{featured}
@@ -22,18 +17,11 @@ scatter-requires c κs =
     let x = c .before .feature-at in
     (a .pre, featured (a .args .k) (x .result) SVE (x .ensures .0) (c .if1 .taken))
 
-number-of-requires : tie.Need-number-of-requires
-number-of-requires c κs = search needs
-
-scatter-numbers-requires : tie.Need-scatter-numbers-requires
-scatter-numbers-requires c κs = search needs
+numbers-of-requires : tie.Need-numbers-of-requires
+numbers-of-requires c κs = search needs
 
 returns : tie.Need-returns
-returns c =
-    let f = c .before .before .scatter in
-    c .scatter-numbers .ensures
-    ∙ ap (λ (n : ℕ). f .result .class ∷ f .result .zm ∷ n ∷ f .result .pg ∷ f .result .rn ∷ f .result .zt ∷ 0 ∷ 0 ∷ []) (c .before .number-of .ensures)
-    ∙ ap storeNumbers (f .ensures)
+returns c = c .numbers-of .ensures ∙ ap storeNumbers (c .before .scatter .ensures)
 
 strided-requires : tie.Need-strided-requires
 strided-requires c κs =
@@ -41,19 +29,11 @@ strided-requires c κs =
     let x = c .before .before .feature-at in
     (a .pre, featured (a .args .k) (x .result) SME2 (x .ensures .0) (c .if2 .taken))
 
-bits-of-requires : tie.Need-bits-of-requires
-bits-of-requires c κs = search needs
-
-strided-numbers-requires : tie.Need-strided-numbers-requires
-strided-numbers-requires c κs = search needs
+numbers-of-requires-2 : tie.Need-numbers-of-requires-2
+numbers-of-requires-2 c κs = search needs
 
 returns-2 : tie.Need-returns-2
-returns-2 c =
-    let f = c .before .before .before .strided in
-    c .strided-numbers .ensures
-    ∙ ap (λ (n : ℕ). f .result .class ∷ f .result .rm ∷ 0 ∷ f .result .pc ∷ f .result .rn ∷ f .result .first ∷ n ∷ 0 ∷ [])
-    (c .before .bits-of .ensures ∙ ap (ofZ w64) (toZ-ofZ {w = w64} {z = f .result .multiple} (record { sfits = omega arith })))
-    ∙ ap storeNumbers (f .ensures)
+returns-2 c = c .numbers-of2 .ensures ∙ ap storeNumbers (c .before .strided .ensures)
 
 quadword-requires : tie.Need-quadword-requires
 quadword-requires c κs =
@@ -61,11 +41,11 @@ quadword-requires c κs =
     let x = c .before .before .feature-at in
     (a .pre, featured (a .args .k) (x .result) SVE2p1 (x .ensures .0) (omega (arith, x .ensures .1)))
 
-quadword-numbers-requires : tie.Need-quadword-numbers-requires
-quadword-numbers-requires c κs = search needs
+numbers-of-requires-3 : tie.Need-numbers-of-requires-3
+numbers-of-requires-3 c κs = search needs
 
 returns-3 : tie.Need-returns-3
-returns-3 c = c .quadword-numbers .ensures ∙ ap storeNumbers (c .before .quadword .ensures)
+returns-3 c = c .numbers-of3 .ensures ∙ ap storeNumbers (c .before .quadword .ensures)
 
 pub numbers-at-spec : {M : Type 1} → statement M
 numbers-at-spec =
@@ -73,13 +53,11 @@ numbers-at-spec =
     (tie.spec
     feature-at-requires
     scatter-requires
-    number-of-requires
-    scatter-numbers-requires
+    numbers-of-requires
     returns
     strided-requires
-    bits-of-requires
-    strided-numbers-requires
+    numbers-of-requires-2
     returns-2
     quadword-requires
-    quadword-numbers-requires
+    numbers-of-requires-3
     returns-3)
