@@ -5,7 +5,7 @@ use Prim.Native.Nat.{ℕ, _+_, _-_, _*_, _/_, _%_, _≤_, _<_}
 use native.Mathlib.Nat.{mod-lt, mul-assoc, mul-le-mul, mul-le-mul-left, mul-le-mul-right, div-lt-iff-lt-mul}
 use native.Mathlib.Omega.{arith}
 use lib.ListN.{length, drop, length-take, length-drop}
-use Rattle.elements.specs.Plans.{offsetBytes, VectorSound, vectorElement, StridedSound, stridedElement}
+use Rattle.elements.specs.Plans.{offsetBytes, VectorSound, vectorElement, StridedSound}
 use Rattle.writes.specs.Window.{inWindow}
 use Rattle.elements.specs.Machine.{register}
 use Rattle.elements.specs.declared.VectorPlan.{VectorPlan}
@@ -81,17 +81,6 @@ module _ (s : StridedPlan) (vb : ℕ) (o : StridedSound s vb) (e : ℕ) (h : e <
 
   pub register-fits : (n : ℕ) → n ≡ 32 * vb → (s .first + e / s .per * s .stride) * vb + vb ≤ n
   register-fits n q = omega (arith, mul-le-mul-right vb register-below)
-
-  pub row-long : (z : List ℕ) → length z ≡ 32 * vb → length (register vb z (s .first + e / s .per * s .stride)) ≡ vb
-  row-long z q =
-      let r = s .first + e / s .per * s .stride in
-      omega (arith, register-fits (length z) q, length-take vb (drop (r * vb) z), length-drop (r * vb) z)
-
-  pub strided-long : (z : List ℕ) → length z ≡ 32 * vb → length (stridedElement s vb z e .bytes) ≡ s .size
-  unfolding stridedElement
-  strided-long z q =
-      let r = register vb z (s .first + e / s .per * s .stride) in
-      omega (arith, place-in, row-long z q, length-take (s .size) (drop (e % s .per * s .step) r), length-drop (e % s .per * s .step) r)
 
 -- at most 1,024 elements
 pub strided-few : (s : StridedPlan) (vb : ℕ) → StridedSound s vb → s .nreg * s .per ≤ 1024

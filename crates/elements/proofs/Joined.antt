@@ -29,7 +29,7 @@ listed el zero e = []
 listed el (suc n) e = el e ∷ listed el n (suc e)
 
 module _ (el : ℕ → Element) where
-  pub length-listed : (n e : ℕ) → length (listed el n e) ≡ n
+  length-listed : (n e : ℕ) → length (listed el n e) ≡ n
   unfolding listed
   length-listed zero e = refl
   length-listed (suc n) e = ap suc (length-listed n (suc e))
@@ -57,7 +57,7 @@ module _ (el : ℕ → Element) where
         let w : 0 ≡ high - e = omega arith in
         none-after (suc n) e a ∙ ap (λ (k : ℕ). listed el k e) w)
 
-    pub range-listed : (n e : ℕ) → e ≤ low → low ≤ high → high ≤ e + n → actives on el n e ≡ listed el (high - low) low
+    range-listed : (n e : ℕ) → e ≤ low → low ≤ high → high ≤ e + n → actives on el n e ≡ listed el (high - low) low
     unfolding actives
     range-listed zero e l o h = let w : e ≡ low = omega arith in subst (λ (k : ℕ). actives on el 0 e ≡ listed el (high - k) k) w (from-low zero e (omega arith) h)
     range-listed (suc n) e l o h =

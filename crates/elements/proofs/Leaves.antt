@@ -1,10 +1,9 @@
 -- What the functions on single elements answer. Assumes nothing.
 use mathlib.Core.Path.{_≡_, sym, ap, _∙_}
-use mathlib.Core.Bool.{Bool, true, false, cond}
+use mathlib.Core.Bool.{Bool, cond}
 use mathlib.Core.List.{List}
-use Prim.Native.Nat.{ℕ, _+_, _-_, _*_, _/_, _%_, _^_, _≤_, _<_}
+use Prim.Native.Nat.{ℕ, _+_, _-_, _/_, _%_, _^_, _≤_, _<_}
 use native.Mathlib.Nat.{add-sub-cancel-left}
-use native.Mathlib.Omega.{arith}
 use lib.Dec.{eqb}
 use lib.ListN.{getD, take, drop}
 use borrow.Author.Tests.{eq-eqb, ne-eqb, lt-ltb, le-ltb}
@@ -60,13 +59,3 @@ module _ (v : ℕ) where
 pub counted-is : (v s : ℕ) → s ≡ lowestSet v → v % 32768 / 2 ^ (s + 1) ≡ countIn v
 unfolding countIn
 counted-is v s e = ap (λ (k : ℕ). v % 32768 / 2 ^ (k + 1)) e
-
-pub lowest-below : (v : ℕ) → lowestSet v < 4
-unfolding lowestSet
-lowest-below v = go (eqb (v % 2) 1) (eqb (v % 4) 2) (eqb (v % 8) 4)
-  where
-    go : (a b c : Bool) → cond a 0 (cond b 1 (cond c 2 3)) < 4
-    go true b c = omega arith
-    go false true c = omega arith
-    go false false true = omega arith
-    go false false false = omega arith

@@ -63,7 +63,7 @@ actives-same on on′ el el′ f g (suc n) e =
     λ i. cond (f e i) (g e i ∷ t i) (t i)
 
 -- the same, where activity agrees below k
-pub actives-below : (on on′ : ℕ → Bool) (el el′ : ℕ → Element) (k : ℕ) → ((e : ℕ) → e < k → on e ≡ on′ e) → ((e : ℕ) → el e ≡ el′ e)
+actives-below : (on on′ : ℕ → Bool) (el el′ : ℕ → Element) (k : ℕ) → ((e : ℕ) → e < k → on e ≡ on′ e) → ((e : ℕ) → el e ≡ el′ e)
     → (n e : ℕ) → e + n ≤ k → actives on el n e ≡ actives on′ el′ n e
 unfolding actives
 actives-below on on′ el el′ k f g zero e h = refl

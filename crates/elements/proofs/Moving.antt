@@ -16,7 +16,7 @@ use Rattle.elements.specs.declared.StridedPlan.{StridedPlan}
 use Rattle.elements.proofs.Planning.{register-in, register-long}
 
 module _ (el : ℕ → Element) where
-  pub bytes-append : (a b e : ℕ) → bytesFrom el (a + b) e ≡ bytesFrom el a e ++ bytesFrom el b (e + a)
+  bytes-append : (a b e : ℕ) → bytesFrom el (a + b) e ≡ bytesFrom el a e ++ bytesFrom el b (e + a)
   unfolding bytesFrom
   bytes-append zero b e = let w : e + 0 ≡ e = omega arith in let v : 0 + b ≡ b = omega arith in ap₂ (bytesFrom el) v (sym w)
   bytes-append (suc a) b e =
@@ -26,14 +26,14 @@ module _ (el : ℕ → Element) where
       ∙ ap (λ (l : List ℕ). el e .bytes ++ l) (bytes-append a b (suc e) ∙ ap (λ (n : ℕ). bytesFrom el a (suc e) ++ bytesFrom el b n) v)
       ∙ sym (append-assoc (el e .bytes) (bytesFrom el a (suc e)) (bytesFrom el b (e + suc a)))
 
-  pub bytes-split : (e to high : ℕ) → e ≤ to → to ≤ high → bytesFrom el (high - e) e ≡ bytesFrom el (to - e) e ++ bytesFrom el (high - to) to
+  bytes-split : (e to high : ℕ) → e ≤ to → to ≤ high → bytesFrom el (high - e) e ≡ bytesFrom el (to - e) e ++ bytesFrom el (high - to) to
   bytes-split e to high h k =
       let w : high - e ≡ (to - e) + (high - to) = omega arith in
       let v : e + (to - e) ≡ to = omega arith in
       ap (λ (n : ℕ). bytesFrom el n e) w ∙ bytes-append (to - e) (high - to) e
       ∙ ap (λ (n : ℕ). bytesFrom el (to - e) e ++ bytesFrom el (high - to) n) v
 
-  pub bytes-length : (k n e : ℕ) → ((i : ℕ) → i < e + n → length (el i .bytes) ≡ k) → length (bytesFrom el n e) ≡ n * k
+  bytes-length : (k n e : ℕ) → ((i : ℕ) → i < e + n → length (el i .bytes) ≡ k) → length (bytesFrom el n e) ≡ n * k
   unfolding bytesFrom
   bytes-length k zero e f = sym (zero-mul k)
   bytes-length k (suc n) e f =
@@ -48,7 +48,7 @@ module _ (el : ℕ → Element) where
 -- ---- in one register
 
 module _ (s : StridedPlan) (vb : ℕ) (o : StridedSound s vb) where
-  pub per-small : s .per ≤ 256
+  per-small : s .per ≤ 256
   per-small = omega (arith, times (s .per) (s .step) (omega (arith, o .wide)), o .whole, o .high)
     where
       times : (a b : ℕ) → 1 ≤ b → a ≤ a * b
@@ -103,7 +103,7 @@ module _ (s : StridedPlan) (vb : ℕ) (o : StridedSound s vb) where
     abbrev reg : List ℕ
     reg = register vb z (s .first + r * s .stride)
 
-    pub row-bytes : (n e : ℕ) → r * s .per ≤ e → e + n ≤ r * s .per + s .per
+    row-bytes : (n e : ℕ) → r * s .per ≤ e → e + n ≤ r * s .per + s .per
         → bytesFrom (stridedElement s vb z) n e ≡ take (n * s .size) (drop ((e - r * s .per) * s .size) reg)
     unfolding bytesFrom
     row-bytes zero e a b = sym (ap (λ (n : ℕ). take n (drop ((e - r * s .per) * s .size) reg)) (zero-mul (s .size)))

@@ -13,7 +13,7 @@ use Rattle.elements.proofs.Stretches.{unit-whole}
 -- ---- the border
 
 -- a doubleword's mask bit is below the count exactly when its number is below the border
-pub before-border : (v e : ℕ) → e * 8 / unitOf v < countIn v → e < borderOf v
+before-border : (v e : ℕ) → e * 8 / unitOf v < countIn v → e < borderOf v
 unfolding lowestSet borderOf
 before-border v e = go (countIn v) (eqb (v % 2) 1) (eqb (v % 4) 2) (eqb (v % 8) 4)
   where
@@ -23,7 +23,7 @@ before-border v e = go (countIn v) (eqb (v % 2) 1) (eqb (v % 4) 2) (eqb (v % 8) 
     go k false false true h = omega arith
     go k false false false h = omega arith
 
-pub from-border : (v e : ℕ) → countIn v ≤ e * 8 / unitOf v → borderOf v ≤ e
+from-border : (v e : ℕ) → countIn v ≤ e * 8 / unitOf v → borderOf v ≤ e
 unfolding lowestSet borderOf
 from-border v e = go (countIn v) (eqb (v % 2) 1) (eqb (v % 4) 2) (eqb (v % 8) 4)
   where
@@ -34,7 +34,7 @@ from-border v e = go (countIn v) (eqb (v % 2) 1) (eqb (v % 4) 2) (eqb (v % 8) 4)
     go k false false false h = omega arith
 
 -- a count in units is below 2^15
-pub count-small : (v : ℕ) → countIn v * unitOf v < 2 ^ 15
+count-small : (v : ℕ) → countIn v * unitOf v < 2 ^ 15
 unfolding lowestSet countIn
 count-small v = go (eqb (v % 2) 1) (eqb (v % 4) 2) (eqb (v % 8) 4)
   where
