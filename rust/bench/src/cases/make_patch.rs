@@ -5,7 +5,7 @@ use super::{times_hand, Case, Outcome, Subject};
 use crate::sides::Side;
 use crate::timing::{repeated, Repeated};
 use compare::running::input::Input;
-use starshackle::make::LARGEST;
+use starshackle::make::LARGEST_STORE_PATCH as LARGEST;
 use std::hint::black_box;
 
 const AIM: f64 = 1.5;

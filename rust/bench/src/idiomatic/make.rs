@@ -5,7 +5,7 @@ use super::machine::Machine;
 use super::refusal::{answered, Done, Refusal};
 use super::store::{Element, Plan};
 use crate::verdicts::{HEAD, RUN_MARK, TRAILER_MARK};
-use starshackle::make::LARGEST;
+use starshackle::make::LARGEST_STORE_PATCH as LARGEST;
 use starshackle::Answer;
 use std::collections::BTreeMap;
 
