@@ -5,7 +5,7 @@ use super::{times_hand, Case, Outcome, Subject};
 use crate::sides::Side;
 use crate::timing::{repeated, Repeated};
 use compare::running::input::Input;
-use starshackle::make::LARGEST_STORE_PATCH as LARGEST;
+use starshackle::LARGEST_STORE_PATCH;
 use std::hint::black_box;
 
 const AIM: f64 = 1.5;
@@ -46,7 +46,7 @@ struct Making(Input);
 impl Subject for Making {
     fn outcome(&self, side: &Side) -> Outcome {
         let Input { base, word, .. } = self.0;
-        let (mut answer, mut patch) = ([1; 5], vec![0x77; LARGEST]);
+        let (mut answer, mut patch) = ([1; 5], vec![0x77; LARGEST_STORE_PATCH]);
         let machine = self.0.machine();
         let length = WINDOW as u64;
         let verdict = (side.make_patch)(&machine, base, length, word, &mut patch, &mut answer);
@@ -55,7 +55,8 @@ impl Subject for Making {
 
     fn repeated<'a>(&'a self, side: &'a Side) -> Repeated<'a> {
         let Input { base, word, .. } = self.0;
-        let (machine, mut patch, mut answer) = (self.0.machine(), vec![0; LARGEST], [0; 5]);
+        let (machine, mut patch, mut answer) =
+            (self.0.machine(), vec![0; LARGEST_STORE_PATCH], [0; 5]);
         repeated(move || {
             let (machine, word) = (black_box(&machine), black_box(word));
             let (patch, answer) = (black_box(&mut patch), black_box(&mut answer));

@@ -5,8 +5,8 @@ use super::machine::Machine;
 use super::refusal::{answered, Done, Refusal};
 use super::store::{Element, Plan};
 use crate::verdicts::{HEAD, RUN_MARK, TRAILER_MARK};
-use starshackle::make::LARGEST_STORE_PATCH as LARGEST;
 use starshackle::Answer;
+use starshackle::LARGEST_STORE_PATCH;
 use std::collections::BTreeMap;
 
 /// As the model's, with the same arguments.
@@ -51,7 +51,7 @@ fn try_make(
 }
 
 fn encoded(writes: &BTreeMap<u64, u8>) -> Vec<u8> {
-    let mut string = Vec::with_capacity(LARGEST);
+    let mut string = Vec::with_capacity(LARGEST_STORE_PATCH);
     let (mut runs, mut head, mut last) = (0u16, 0, None);
     for (&address, &byte) in writes {
         if last.map_or(true, |last| address - last > 1) {
