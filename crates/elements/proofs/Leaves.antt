@@ -1,12 +1,13 @@
 -- What the functions on single elements answer. Assumes nothing.
-use mathlib.Core.Path.{_≡_, sym, ap, _∙_}
-use mathlib.Core.Bool.{Bool, cond}
+use mathlib.Core.Path.{_≡_, refl, sym, ap, _∙_}
+use mathlib.Core.Bool.{Bool, true, false, cond}
 use mathlib.Core.List.{List}
 use Prim.Native.Nat.{ℕ, _+_, _-_, _/_, _%_, _^_, _≤_, _<_}
 use native.Mathlib.Nat.{add-sub-cancel-left}
-use lib.Dec.{eqb}
+use native.Mathlib.Omega.{arith}
+use lib.Dec.{eqb, ltb}
 use lib.ListN.{getD, take, drop}
-use borrow.Author.Tests.{eq-eqb, ne-eqb, lt-ltb, le-ltb}
+use borrow.Author.Tests.{eq-eqb, ne-eqb, lt-ltb, le-ltb, ltb-true, ltb-false}
 use Rattle.writes.specs.LittleEndian.{leVal}
 use Rattle.elements.specs.Machine.{bitAt}
 use Rattle.elements.specs.Counter.{lowestSet, countIn}
@@ -30,6 +31,14 @@ signed-low x h = sym (ap (λ (b : Bool). cond b x (x + (2 ^ 64 - 2 ^ 32))) (lt-l
 
 pub signed-high : (x : ℕ) → 2 ^ 31 ≤ x → x + (2 ^ 64 - 2 ^ 32) ≡ signed32 x
 signed-high x h = sym (ap (λ (b : Bool). cond b x (x + (2 ^ 64 - 2 ^ 32))) (le-ltb x (2 ^ 31) h))
+
+-- 2^31 more modulo 2^32, and 2^31 less modulo 2^64
+pub signed-wrapped : (x r : ℕ) → x < 2 ^ 32 → r < 2 ^ 64 → (r + 2 ^ 31) % 2 ^ 64 ≡ (x + 2 ^ 31) % 2 ^ 32 → r ≡ signed32 x
+signed-wrapped x r h k e = go (ltb x (2 ^ 31)) refl
+  where
+    go : (b : Bool) → ltb x (2 ^ 31) ≡ b → r ≡ signed32 x
+    go true q = let l : x < 2 ^ 31 = ltb-true x (2 ^ 31) q in let s : r ≡ x = omega arith in s ∙ signed-low x l
+    go false q = let l : 2 ^ 31 ≤ x = ltb-false x (2 ^ 31) q in let s : r ≡ x + (2 ^ 64 - 2 ^ 32) = omega arith in s ∙ signed-high x l
 
 -- ---- counters
 

@@ -101,16 +101,13 @@ pub fn scaled(x: u64, s: u32) -> u64
     x << s
 }
 
-// A number below 2^32, extended by its sign to 64 bits.
+// A number below 2^32, extended by its sign to 64 bits: 2^31 more modulo 2^32, and 2^31 less modulo 2^64.
 fn extended(x: u64) -> u64
     requires { ⌜ x < 2 ^ 32 ⌝ }
     ensures { λ r. ⌜ r ≡ signed32 x ⌝ }
 {
-    if x < 0x80000000 {
-        x
-    } else {
-        x + 0xFFFFFFFF00000000
-    }
+    let raised = (x + 0x8000_0000) % 0x1_0000_0000;
+    std::num::wrapping_sub_u64(raised, 0x8000_0000)
 }
 
 // The offset whose element starts at byte `at` of its register.

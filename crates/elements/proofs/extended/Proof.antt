@@ -1,17 +1,18 @@
 -- By its sign. Assumes nothing.
-use Rattle.elements.proofs.Leaves.{signed-low, signed-high}
+use native.Mathlib.Omega.{arith}
+use Rattle.elements.proofs.Leaves.{signed-wrapped}
 use borrow.Author.Needs.{needs}
 use Rattle.elements.proofs.extended.Statement.{statement}
 use Rattle.elements.proofs.extended.Tie as tie
 
-add-result : tie.Need-add-result
-add-result c = search needs
+add-raised : tie.Need-add-raised
+add-raised c = omega arith
+
+wrapping-sub-u64-requires : tie.Need-wrapping-sub-u64-requires
+wrapping-sub-u64-requires c κs = search needs
 
 returns : tie.Need-returns
-returns c = signed-low (c .before .args .x) (c .if1 .taken)
-
-returns-2 : tie.Need-returns-2
-returns-2 c = signed-high (c .before .args .x) (c .if1 .left)
+returns c = signed-wrapped (c .before .args .x) (c .wrapping-sub-u64 .result) (c .before .pre) (search needs) (c .wrapping-sub-u64 .ensures)
 
 pub extended-spec : {M : Type 1} → statement M
-extended-spec = tie.close (tie.spec add-result returns returns-2)
+extended-spec = tie.close (tie.spec add-raised wrapping-sub-u64-requires returns)
