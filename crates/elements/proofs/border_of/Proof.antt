@@ -25,7 +25,7 @@ returns : tie.Need-returns
 returns c =
     let s = c .before .before .lowest-set in
     let k = c .before .counted in
-    border-is (c .before .before .before .args .v) (s .result) (k .result) (c .scaled .result) (s .ensures .0) (k .ensures) (c .scaled .ensures) .0
+    omega (arith, border-is (c .before .before .before .args .v) (s .result) (k .result) (c .scaled .result) (s .ensures .0) (k .ensures) (c .scaled .ensures) .0)
 
 pub border-of-spec : {M : Type 1} → statement M
 border-of-spec =

@@ -1,4 +1,6 @@
 -- By the counter's low four bits, and by bit 15. Assumes nothing.
+use mathlib.Core.Path.{_≡_}
+use Prim.Native.Nat.{ℕ, _%_, _^_, _≤_, _<_}
 use native.Mathlib.Omega.{arith}
 use Rattle.elements.proofs.Ranges.{low-empty, low-up, low-down, high-empty, high-up, high-down}
 use borrow.Author.Needs.{needs}
@@ -6,7 +8,10 @@ use Rattle.elements.proofs.range_of.Statement.{statement}
 use Rattle.elements.proofs.range_of.Tie as tie
 
 returns : tie.Need-returns
-returns c = let a = c .before .args in (low-empty (a .v) (a .n) (c .if1 .taken), high-empty (a .v) (a .n) (c .if1 .taken))
+returns c =
+    let a = c .before .args in
+    let e : a .v % 16 ≡ 0 = omega (arith, c .if1 .taken) in
+    (low-empty (a .v) (a .n) e, high-empty (a .v) (a .n) e)
 
 lower-requires : tie.Need-lower-requires
 lower-requires c κs = search needs
@@ -14,9 +19,11 @@ lower-requires c κs = search needs
 returns-2 : tie.Need-returns-2
 returns-2 c =
     let a = c .before .before .before in
-    let l = c .lower in (
-      low-up (a .args .v) (a .args .n) (c .before .before .if1 .left) (c .before .if2 .taken),
-      high-up (a .args .v) (a .args .n) (c .before .before .if1 .left) (c .before .if2 .taken) (a .args .border) (a .pre) (l .result) (omega (arith, l .ensures)),
+    let l = c .lower in
+    let f : a .args .v % 16 ≡ 0 → ⊥ = λ e. omega (arith, c .before .before .if1 .left) in
+    let u : a .args .v < 2 ^ 15 = omega (arith, c .before .if2 .taken) in (
+      low-up (a .args .v) (a .args .n) f u,
+      high-up (a .args .v) (a .args .n) f u (a .args .border) (a .pre) (l .result) (omega (arith, l .ensures)),
     )
 
 lower-requires-2 : tie.Need-lower-requires-2
@@ -25,9 +32,11 @@ lower-requires-2 c κs = search needs
 returns-3 : tie.Need-returns-3
 returns-3 c =
     let a = c .before .before .before in
-    let l = c .lower2 in (
-      low-down (a .args .v) (a .args .n) (c .before .before .if1 .left) (c .before .if2 .left) (a .args .border) (a .pre) (l .result) (omega (arith, l .ensures)),
-      high-down (a .args .v) (a .args .n) (c .before .before .if1 .left) (c .before .if2 .left),
+    let l = c .lower2 in
+    let f : a .args .v % 16 ≡ 0 → ⊥ = λ e. omega (arith, c .before .before .if1 .left) in
+    let d : 2 ^ 15 ≤ a .args .v = omega (arith, c .before .if2 .left) in (
+      low-down (a .args .v) (a .args .n) f d (a .args .border) (a .pre) (l .result) (omega (arith, l .ensures)),
+      high-down (a .args .v) (a .args .n) f d,
     )
 
 pub range-of-spec : {M : Type 1} → statement M
