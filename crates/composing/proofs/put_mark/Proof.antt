@@ -1,7 +1,7 @@
 -- A mark put. Assumes nothing.
 use native.Mathlib.Omega.{arith}
 use lib.ListN.{length-set}
-use Rattle.composing.proofs.Putting.{two-put}
+use Rattle.writes.proofs.Putting.{two-put}
 use borrow.Author.Needs.{needs}
 use Rattle.composing.proofs.put_mark.Statement.{statement}
 use Rattle.composing.proofs.put_mark.Tie as tie
