@@ -19,6 +19,7 @@ use checks::Flags;
 use checks::Verdict;
 use elements::StridedPlan;
 use elements::VectorPlan;
+use encoding::Extension;
 use gather::gather_vector;
 use lay::lay_vector;
 
@@ -33,6 +34,24 @@ pub enum Making {
     Refused {
         verdict: Verdict,
     },
+}
+
+// The plan itself, made anew with constants for what they equal.
+pub(crate) fn same_plan(v: VectorPlan, extension: Extension, step: usize, size: usize) -> VectorPlan
+    requires { ⌜ (extension ≡ v .extension) × (step ≡ v .step) × (size ≡ v .size) ⌝ }
+    ensures { λ r. ⌜ r ≡ v ⌝ }
+{
+    VectorPlan {
+        extension,
+        scale: v.scale,
+        base: v.base,
+        step,
+        size,
+        count: v.count,
+        offsets: v.offsets,
+        governing: v.governing,
+        stored: v.stored,
+    }
 }
 
 // The patch of a scatter or quadword store that is done: it has at most 64 elements.
