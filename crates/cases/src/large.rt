@@ -1,5 +1,5 @@
 // Patches that are made here.
-ghost use Prim.Native.Nat.{_≤_, _<_};
+ghost use Prim.Native.Nat.{_≤_};
 
 // A byte at an index that the buffer has.
 fn put(s: &mut [u8], at: usize, b: u8) {
@@ -41,7 +41,7 @@ fn fill(s: &mut [u8], at: usize, len: usize, b: u8)
 }
 
 // n runs of len bytes each from 2000h on with gaps of one, and a trailer.
-pub fn runs(s: &mut [u8], n: usize, len: usize)
+pub(crate) fn runs(s: &mut [u8], n: usize, len: usize)
     requires { ⌜ (n ≤ 65) × (len ≤ 16) ⌝ }
 {
     let mut at = 0;
@@ -58,13 +58,13 @@ pub fn runs(s: &mut [u8], n: usize, len: usize)
 }
 
 // One run of 1,025 bytes.
-pub fn one(s: &mut [u8]) {
+pub(crate) fn one(s: &mut [u8]) {
     head(s, 0, 0x2000, 1025);
     trailer(s, 1037, 1);
 }
 
 // The sum of the bytes.
-pub fn sum(m: &[u8]) -> u64 {
+pub(crate) fn sum(m: &[u8]) -> u64 {
     let mut t: u64 = 0;
     let mut i = 0;
     while i < m.len() {

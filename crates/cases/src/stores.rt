@@ -16,7 +16,7 @@ fn flags() -> Flags {
 }
 
 // Class 4 from Z1 with the offset in element 0 of Z2, which is active, and X0 as base.
-pub fn scatter(start: u64, offset: u8, base: u64, memory: &mut [u8]) -> Verdict {
+pub(crate) fn scatter(start: u64, offset: u8, base: u64, memory: &mut [u8]) -> Verdict {
     let mut z = [0u8; 512];
     z[16] = 1;
     z[17] = 2;
@@ -35,7 +35,7 @@ pub fn scatter(start: u64, offset: u8, base: u64, memory: &mut [u8]) -> Verdict 
 }
 
 // Class 10 from Z0 and Z8 at 1000h, under the counter in P8.
-pub fn strided(low: u8, high: u8, base: u64, memory: &mut [u8]) -> Verdict {
+pub(crate) fn strided(low: u8, high: u8, base: u64, memory: &mut [u8]) -> Verdict {
     let mut z = [0u8; 512];
     z[0] = 0xa0;
     z[8] = 0xa1;

@@ -9,8 +9,6 @@ use native.Mathlib.Omega.{arith}
 use lib.Dec.{eqb}
 use lib.ListN.{length}
 use borrow.Author.Tests.{eq-eqb, ne-eqb, eqb-true}
-use Rattle.encoding.specs.Classes.{Feature, SVE, SME2, SVE2p1, flag}
-use Rattle.encoding.proofs.Rows.{flag-inj}
 use Rattle.encoding.proofs.Statements.{one-of}
 use Rattle.writes.specs.Elements.{Element}
 use Rattle.writes.specs.Window.{inWindow}
@@ -80,25 +78,6 @@ module _ (f : Flags) (sp : ℕ) (s : Bool) (W L n : ℕ) (xs : List Element) whe
 
     pub settled-done : firstOutside W L xs ≡ none → Done (length xs) (length xs * n) ≡ settled f sp s W L n xs
     settled-done q = sym (past-stack ∙ ap (λ (o : Option Element). concluded o n xs) q)
-
--- ---- flags
-
-module _ (f : Flags) where
-  pub off-as : (x y : Feature) (n : ℕ) (b : Bool) → n ≡ flag x → n ≡ flag y → b ≡ not (flagOn f y) → b ≡ not (flagOn f x)
-  off-as x y n b p q r = r ∙ ap (λ (z : Feature). not (flagOn f z)) (flag-inj y x (sym q ∙ p))
-
-  pub illegal-as : (x y : Feature) (n : ℕ) (b : Bool) → n ≡ flag x → n ≡ flag y → b ≡ illegal f y → b ≡ illegal f x
-  illegal-as x y n b p q r = r ∙ ap (λ (z : Feature). illegal f z) (flag-inj y x (sym q ∙ p))
-
-pub third : (x : Feature) (n : ℕ) → n ≡ flag x → (n ≡ 0 → ⊥) → (n ≡ 1 → ⊥) → n ≡ 2
-third SVE n e f g = absurd (f e)
-third SME2 n e f g = absurd (g e)
-third SVE2p1 n e f g = e
-
-pub not-second : (f : Flags) (x : Feature) (n : ℕ) → n ≡ flag x → (n ≡ 1 → ⊥) → illegal f SVE ≡ illegal f x
-not-second f SVE n e g = refl
-not-second f SME2 n e g = absurd (g e)
-not-second f SVE2p1 n e g = refl
 
 -- ---- VB
 

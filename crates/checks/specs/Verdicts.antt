@@ -6,7 +6,8 @@ use mathlib.Core.List.{List, [], _∷_}
 use mathlib.Core.Option.{Option, none, some}
 use lib.Dec.{eqb}
 use lib.ListN.{length}
-use Rattle.encoding.specs.Classes.{Feature, SVE, SME2, SVE2p1}
+use Rattle.encoding.specs.declared.Feature.{Feature}
+use Rattle.encoding.specs.declared.Feature.the-variants.{SVE, SME2, SVE2p1}
 use Rattle.encoding.specs.Decoding.{decodeOf}
 use Rattle.encoding.specs.Encoding.{classFor, featureOf}
 use Rattle.encoding.specs.declared.Decoded.{Decoded}

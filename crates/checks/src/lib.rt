@@ -6,7 +6,6 @@ mod vectors;
 ghost use mathlib.Core.Path.{_≡_};
 ghost use mathlib.Core.Bool.{not};
 ghost use mathlib.Core.List.{List};
-ghost use Rattle.encoding.specs.Classes.{Feature, flag};
 ghost use Rattle.writes.specs.Elements.{Element};
 ghost use Rattle.elements.specs.Machine.{machine};
 ghost use Rattle.checks.specs.Verdicts.{lengthOk, flagOn, illegal, isSome, stack};
@@ -14,6 +13,7 @@ ghost use Rattle.checks.specs.Checking.{CheckedAs};
 use elements::StridedPlan;
 use elements::VectorPlan;
 use encoding::Decoded;
+use encoding::Feature;
 
 pub struct Flags {
     pub sve: bool,
@@ -63,27 +63,26 @@ pub fn length_ok(vb: usize) -> bool
     (vb == 16) | (vb == 32) | (vb == 64) | (vb == 128) | (vb == 256)
 }
 
-// Whether the class that needs this flag is off.
-fn is_off(flags: Flags, feature: u32) -> bool
-    ensures { λ r. ⌜ ((x : Feature) → feature ≡ flag x → r ≡ not (flagOn flags x)) ⌝ }
+// Whether a feature is off.
+fn is_off(flags: Flags, feature: Feature) -> bool
+    ensures { λ r. ⌜ r ≡ not (flagOn flags feature) ⌝ }
 {
-    if feature == 0 {
-        return !flags.sve;
+    match feature {
+        Feature::SVE => !flags.sve,
+        Feature::SME2 => !flags.sme2,
+        Feature::SVE2p1 => !flags.sve2p1,
     }
-    if feature == 1 {
-        return !flags.sme2;
-    }
-    !flags.sve2p1
 }
 
-// Whether a store of a class that needs this flag is illegal.
-fn is_illegal(flags: Flags, feature: u32) -> bool
-    ensures { λ r. ⌜ ((x : Feature) → feature ≡ flag x → r ≡ illegal flags x) ⌝ }
+// Whether a store of a class with this feature is illegal.
+fn is_illegal(flags: Flags, feature: Feature) -> bool
+    ensures { λ r. ⌜ r ≡ illegal flags feature ⌝ }
 {
-    if feature == 1 {
-        return !flags.streaming;
+    match feature {
+        Feature::SVE => flags.streaming & !flags.fa64,
+        Feature::SME2 => !flags.streaming,
+        Feature::SVE2p1 => flags.streaming & !flags.fa64,
     }
-    flags.streaming & !flags.fa64
 }
 
 // Whether the stack check refuses a store, by whether its base is SP and it has active elements.

@@ -4,7 +4,6 @@ ghost use mathlib.Core.Bool.{Bool, true, false};
 ghost use mathlib.Core.List.{List};
 ghost use Prim.Native.Nat.{ℕ, _*_, _/_, _≤_};
 ghost use lib.ListN.{length};
-ghost use Rattle.encoding.specs.Classes.{flag};
 ghost use Rattle.encoding.specs.Encoding.{featureOf, refused};
 ghost use Rattle.writes.specs.Elements.{Element};
 ghost use Rattle.writes.specs.Window.{windowOk};
@@ -27,6 +26,7 @@ use super::vectors::some_vector;
 use elements::StridedPlan;
 use elements::VectorPlan;
 use encoding::Decoded;
+use encoding::Feature;
 use encoding::Store;
 
 // A store's plan, by its case.
@@ -125,14 +125,14 @@ fn check_strided(
     settle(scan, refuses, Checked::Strided { plan: s })
 }
 
-// The number of the flag that a store needs.
-fn feature_for(store: Store) -> u32
-    ensures { λ r. ⌜ r ≡ flag (featureOf store) ⌝ }
+// The feature of a store's class.
+fn feature_for(store: Store) -> Feature
+    ensures { λ r. ⌜ r ≡ featureOf store ⌝ }
 {
     match store {
-        Store::Scatter(_) => 0,
-        Store::Strided(_) => 1,
-        Store::Quadword(_) => 2,
+        Store::Scatter(_) => Feature::SVE,
+        Store::Strided(_) => Feature::SME2,
+        Store::Quadword(_) => Feature::SVE2p1,
     }
 }
 

@@ -1,22 +1,21 @@
 -- The store that eight entries give, and when there is none. Assumes nothing.
-use mathlib.Core.Path.{_≡_, refl, sym, ap, _∙_, subst}
-use mathlib.Core.Bool.{Bool, true, false, not, cond, _&&_, _||_}
-use mathlib.Core.List.{List}
+use mathlib.Core.Path.{_≡_, refl, sym, ap, _∙_}
+use mathlib.Core.Bool.{Bool, true, false, not, cond, _||_}
+use mathlib.Core.List.{List, [], _∷_}
 use Prim.Native.Nat.{ℕ, _≤_, _<_}
-use native.Mathlib.Omega.{arith}
 use lib.Dec.{T, eqb, ltb, lt→ltb, ltb→lt}
-use lib.Ieee.Fits.{and-i, and-l, and-r}
-use borrow.Author.Tests.{eq-eqb, ne-eqb, lt-ltb, le-ltb, not-true}
-use Rattle.encoding.specs.Classes.{Feature, SVE, SME2, SVE2p1, flag}
-use Rattle.encoding.specs.Encoding.{featureNumbered, encodeOf}
+use borrow.Author.Tests.{eq-eqb, ne-eqb, lt-ltb, le-ltb, not-true, not-false}
+use Rattle.encoding.specs.declared.Feature.{Feature}
+use Rattle.encoding.specs.declared.Feature.the-variants.{SVE, SME2, SVE2p1}
+use Rattle.encoding.specs.Encoding.{encodeOf}
 use Rattle.encoding.specs.declared.Extension.the-variants.{None, Uxtw, Sxtw}
 use Rattle.encoding.specs.declared.Store.{Store}
 use Rattle.encoding.specs.declared.Encoded.{Encoded}
 use Rattle.encoding.specs.declared.Encoded.the-variants.{Word, Fields}
-use Rattle.encoding.proofs.Tests.{every, holds, fails, cond-true, cond-false}
-use Rattle.encoding.proofs.Rows.{flag-inj}
+use Rattle.encoding.proofs.Tests.{every, holds, fails, cond-true, cond-false, Facts, facts, told, telling}
 use Rattle.encoding.proofs.Narrow.{encoded-narrow}
-use Rattle.codec.specs.Codec.{entry, extensionGiven, storeGiven, surplus, misgiven, encodeGiven, narrow, Narrow}
+use Rattle.codec.specs.Codec.{entry, extensionGiven, storeGiven, surplus, misgiven, featureGiven, encodeGiven}
+use Rattle.codec.specs.Narrow.{narrow, Narrow}
 
 -- ---- extensions
 
@@ -48,94 +47,66 @@ module _ (x : Feature) (es : List ℕ) where
         sym (ap (λ (b : Bool). not b || ltb 2 (entry es 2) || surplus x es) (eq-eqb (entry es 7) 0 e)
         ∙ ap (λ (b : Bool). b || surplus x es) (le-ltb 2 (entry es 2) l))
 
--- the feature that a flag's number names
-pub surplus-at : (x y : Feature) (es : List ℕ) (n : ℕ) → n ≡ flag x → n ≡ flag y → surplus y es ≡ surplus x es
-surplus-at x y es n e f = ap (λ (z : Feature). surplus z es) (flag-inj y x (sym f ∙ e))
-
-pub third : (x : Feature) (n : ℕ) → n ≡ flag x → (n ≡ 0 → ⊥) → (n ≡ 1 → ⊥) → n ≡ 2
-third SVE n e f g = absurd (f e)
-third SME2 n e f g = absurd (g e)
-third SVE2p1 n e f g = e
-
 -- ---- numbers that fit a byte
 
-five : (a b c d e : Bool) → T (a && b && c && d && e) → T a × T b × T c × T d × T e
-five true true true true true t = (tt, tt, tt, tt, tt)
-five true true true true false t = absurd t
-five true true true false e t = absurd t
-five true true false d e t = absurd t
-five true false c d e t = absurd t
-five false b c d e t = absurd t
+abbrev rest : List ℕ → List Bool
+rest es = ltb (entry es 1) 256 ∷ ltb (entry es 3) 256 ∷ ltb (entry es 4) 256 ∷ ltb (entry es 5) 256 ∷ []
 
-pub narrowed : (es : List ℕ) (b : Bool) → b ≡ narrow es → b ≡ true → Narrow es
-narrowed es b e t =
-    let p = five (ltb (entry es 0) 256) (ltb (entry es 1) 256) (ltb (entry es 3) 256) (ltb (entry es 4) 256) (ltb (entry es 5) 256) (holds (sym e ∙ t)) in
-    record {
-      at0 = ltb→lt (entry es 0) 256 (p .0);
-      at1 = ltb→lt (entry es 1) 256 (p .1);
-      at3 = ltb→lt (entry es 3) 256 (p .2);
-      at4 = ltb→lt (entry es 4) 256 (p .3);
-      at5 = ltb→lt (entry es 5) 256 (p .4);
-    }
+pub narrowed : (es : List ℕ) (b : Bool) → b ≡ narrow es → not b ≡ false → Narrow es
+narrowed es b e t = made (told (ltb (entry es 0) 256) (rest es) (holds (sym e ∙ not-false b t)))
+  where
+    made : Facts (ltb (entry es 0) 256 ∷ rest es) → Narrow es
+    made (t0, (t1, (t3, (t4, (t5, u))))) =
+        record {
+          at0 = ltb→lt (entry es 0) 256 t0;
+          at1 = ltb→lt (entry es 1) 256 t1;
+          at3 = ltb→lt (entry es 3) 256 t3;
+          at4 = ltb→lt (entry es 4) 256 t4;
+          at5 = ltb→lt (entry es 5) 256 t5;
+        }
 
 -- a store with a word has such numbers
-narrow-made : (a b c d e : Bool) → T a → T (b && (c && (d && (e && true)))) → T (a && b && c && d && e)
-narrow-made true true true true true s t = tt
-narrow-made true true true true false s t = absurd t
-narrow-made true true true false e s t = absurd t
-narrow-made true true false d e s t = absurd t
-narrow-made true false c d e s t = absurd t
-narrow-made false b c d e s t = absurd s
-
-strided-made : (a b c d e : Bool) → T a → T (b && (c && (d && true))) → T e → T (a && b && c && d && e)
-strided-made true true true true true s t u = tt
-strided-made true true true true false s t u = absurd u
-strided-made true true true false e s t u = absurd t
-strided-made true true false d e s t u = absurd t
-strided-made true false c d e s t u = absurd t
-strided-made false b c d e s t u = absurd s
-
 word-narrow : (x : Feature) (es : List ℕ) (w : ℕ) → encodeOf (storeGiven x es) ≡ Word w → T (narrow es)
 unfolding every
 word-narrow SVE es w e =
     let n = encoded-narrow (storeGiven SVE es) w e in
-    narrow-made (ltb (entry es 0) 256) (ltb (entry es 1) 256) (ltb (entry es 3) 256) (ltb (entry es 4) 256) (ltb (entry es 5) 256)
-    (lt→ltb (entry es 0) 256 (n .class)) (n .numbers)
+    telling (ltb (entry es 0) 256) (rest es) (lt→ltb (entry es 0) 256 (n .class), facts (rest es) (n .numbers))
 word-narrow SME2 es w e =
     let n = encoded-narrow (storeGiven SME2 es) w e in
-    strided-made (ltb (entry es 0) 256) (ltb (entry es 1) 256) (ltb (entry es 3) 256) (ltb (entry es 4) 256) (ltb (entry es 5) 256)
-    (lt→ltb (entry es 0) 256 (n .class)) (n .numbers) (lt→ltb (entry es 5) 256 (n .first))
+    let f = facts (ltb (entry es 1) 256 ∷ ltb (entry es 3) 256 ∷ ltb (entry es 4) 256 ∷ []) (n .numbers) in
+    telling (ltb (entry es 0) 256) (rest es)
+    (lt→ltb (entry es 0) 256 (n .class), (f .0, (f .1 .0, (f .1 .1 .0, (lt→ltb (entry es 5) 256 (n .first), tt)))))
 word-narrow SVE2p1 es w e =
     let n = encoded-narrow (storeGiven SVE2p1 es) w e in
-    narrow-made (ltb (entry es 0) 256) (ltb (entry es 1) 256) (ltb (entry es 3) 256) (ltb (entry es 4) 256) (ltb (entry es 5) 256)
-    (lt→ltb (entry es 0) 256 (n .class)) (n .numbers)
+    telling (ltb (entry es 0) 256) (rest es) (lt→ltb (entry es 0) 256 (n .class), facts (rest es) (n .numbers))
 
 -- ---- what encoding the entries answers
 
-module _ (es : List ℕ) where
-  refused-too : (b : Bool) (e : Encoded) → (T b → ⊥) → ((w : ℕ) → e ≡ Word w → T b) → (c : Bool) → Fields ≡ cond c Fields e
-  refused-too b (Word w) f g c = absurd (f (g w refl))
-  refused-too b Fields f g true = refl
-  refused-too b Fields f g false = refl
+refused-too : (b : Bool) (e : Encoded) → (T b → ⊥) → ((w : ℕ) → e ≡ Word w → T b) → (c : Bool) → Fields ≡ cond c Fields e
+refused-too b (Word w) f g c = absurd (f (g w refl))
+refused-too b Fields f g true = refl
+refused-too b Fields f g false = refl
 
+module _ (es : List ℕ) where
   pub given-wide : (b : Bool) → b ≡ narrow es → not b ≡ true → Fields ≡ encodeGiven es
   unfolding encodeGiven
   given-wide b e t =
-      refused-too (narrow es) (encodeOf (storeGiven (featureNumbered (entry es 0)) es))
-      (fails (sym e ∙ not-true b t)) (word-narrow (featureNumbered (entry es 0)) es) (misgiven (featureNumbered (entry es 0)) es)
+      let x = featureGiven es in
+      refused-too (narrow es) (encodeOf (storeGiven x es)) (fails (sym e ∙ not-true b t)) (word-narrow x es) (misgiven x es)
 
-  pub given-misgiven : (n : ℕ) (b : Bool) → n ≡ flag (featureNumbered (entry es 0)) → ((x : Feature) → n ≡ flag x → b ≡ misgiven x es) → b ≡ true
-      → Fields ≡ encodeGiven es
-  unfolding encodeGiven
-  given-misgiven n b e f t =
-      sym (cond-true (misgiven (featureNumbered (entry es 0)) es) Fields (encodeOf (storeGiven (featureNumbered (entry es 0)) es))
-      (holds (sym (f (featureNumbered (entry es 0)) e) ∙ t)))
+  module _ (x : Feature) (e : x ≡ featureGiven es) (b : Bool) (f : b ≡ misgiven x es) where
+    is : b ≡ misgiven (featureGiven es) es
+    is = f ∙ ap (λ (y : Feature). misgiven y es) e
 
-  pub given-store : (n : ℕ) (b : Bool) (x : Feature) (s : Store) (r : Encoded) → n ≡ flag (featureNumbered (entry es 0))
-      → ((y : Feature) → n ≡ flag y → b ≡ misgiven y es) → b ≡ false → n ≡ flag x → s ≡ storeGiven x es → r ≡ encodeOf s → r ≡ encodeGiven es
-  unfolding encodeGiven
-  given-store n b x s r e f t g p q =
-      q
-      ∙ ap encodeOf (p ∙ ap (λ (y : Feature). storeGiven y es) (flag-inj x (featureNumbered (entry es 0)) (sym g ∙ e)))
-      ∙ sym (cond-false (misgiven (featureNumbered (entry es 0)) es) Fields (encodeOf (storeGiven (featureNumbered (entry es 0)) es))
-      (fails (sym (f (featureNumbered (entry es 0)) e) ∙ t)))
+    pub given-misgiven : b ≡ true → Fields ≡ encodeGiven es
+    unfolding encodeGiven
+    given-misgiven t =
+        sym (cond-true (misgiven (featureGiven es) es) Fields (encodeOf (storeGiven (featureGiven es) es)) (holds (sym is ∙ t)))
+
+    pub given-store : b ≡ false → (y : Feature) → x ≡ y → (s : Store) → s ≡ storeGiven y es → (r : Encoded) → r ≡ encodeOf s
+        → r ≡ encodeGiven es
+    unfolding encodeGiven
+    given-store t y g s p r q =
+        q
+        ∙ ap encodeOf (p ∙ ap (λ (z : Feature). storeGiven z es) (sym g ∙ e))
+        ∙ sym (cond-false (misgiven (featureGiven es) es) Fields (encodeOf (storeGiven (featureGiven es) es)) (fails (sym is ∙ t)))

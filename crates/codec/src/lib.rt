@@ -3,29 +3,19 @@
 ghost use mathlib.Core.Path.{_≡_};
 ghost use Prim.Native.Nat.{_<_};
 ghost use mathlib.Core.List.{_∷_, []};
-ghost use mir.Syntax.{w64};
-ghost use mir.Val.{toZ};
-ghost use Rattle.encoding.specs.Classes.{Feature, SVE, SME2, SVE2p1, classAt, flag};
-ghost use Rattle.encoding.specs.Decoding.{storeOf};
+ghost use Rattle.encoding.specs.declared.Feature.the-variants.{SVE, SME2, SVE2p1};
 ghost use Rattle.encoding.specs.Answers.{extensionNumber, storeNumbers};
-ghost use Rattle.codec.specs.Codec.{entry, extensionGiven, storeGiven, misgiven, encodeGiven, narrow, Narrow};
+ghost use Rattle.codec.specs.Codec.{entry, extensionGiven, storeGiven, misgiven, encodeGiven};
+ghost use Rattle.codec.specs.Narrow.{narrow, Narrow};
 use encoding::Encoded;
 use encoding::Extension;
+use encoding::Feature;
 use encoding::QuadwordFields;
 use encoding::ScatterFields;
 use encoding::Store;
 use encoding::StridedFields;
-
-// 64 bits, read as signed.
-fn signed_of(bits: u64) -> i64
-    ensures { λ r. ⌜ r ≡ toZ w64 bits ⌝ }
-{
-    if bits < 0x8000000000000000 {
-        bits as i64
-    } else {
-        !((u64::MAX - bits) as i64)
-    }
-}
+use encoding::complement::bits_of;
+use encoding::complement::signed_of;
 
 fn number_of(extension: Extension) -> u64
     ensures { λ r. ⌜ r ≡ extensionNumber extension ⌝ }
@@ -91,24 +81,9 @@ pub fn numbers_of(store: Store) -> [u64; 8]
             let extension = f.extension;
             scatter_numbers(f, number_of(extension))
         }
-        Store::Strided(f) => strided_numbers(f, elements::bits_of(f.multiple)),
+        Store::Strided(f) => strided_numbers(f, bits_of(f.multiple)),
         Store::Quadword(f) => quadword_numbers(f),
     }
-}
-
-// The store of class k + 1 that a word is, as eight numbers.
-pub fn numbers_at(k: usize, word: u32) -> [u64; 8]
-    requires { ⌜ k < 12 ⌝ }
-    ensures { λ r. ⌜ r ≡ storeNumbers (storeOf (classAt k) word) ⌝ }
-{
-    let feature = encoding::table::feature_at(k);
-    if feature == 0 {
-        return numbers_of(Store::Scatter(encoding::scatter(k, word)));
-    }
-    if feature == 1 {
-        return numbers_of(Store::Strided(encoding::strided(k, word)));
-    }
-    numbers_of(Store::Quadword(encoding::quadword(k, word)))
 }
 
 fn extension_of(n: u64) -> Extension
@@ -135,9 +110,9 @@ fn is_narrow(fields: &[u64; 8]) -> bool
         & (fields[5] < 256)
 }
 
-// Whether the entries give no store of a class of this feature.
-fn is_misgiven(feature: u32, fields: &[u64; 8]) -> bool
-    ensures { λ r. ⌜ ((x : Feature) → feature ≡ flag x → r ≡ misgiven x (now (fields .entry))) ⌝ }
+// Whether the entries give no store of a class with this feature.
+fn is_misgiven(feature: Feature, fields: &[u64; 8]) -> bool
+    ensures { λ r. ⌜ r ≡ misgiven feature (now (fields .entry)) ⌝ }
 {
     if fields[7] != 0 {
         return true;
@@ -145,13 +120,11 @@ fn is_misgiven(feature: u32, fields: &[u64; 8]) -> bool
     if 2 < fields[2] {
         return true;
     }
-    if feature == 0 {
-        return fields[6] != 0;
+    match feature {
+        Feature::SVE => fields[6] != 0,
+        Feature::SME2 => fields[2] != 0,
+        Feature::SVE2p1 => (fields[2] != 0) | (fields[6] != 0),
     }
-    if feature == 1 {
-        return fields[2] != 0;
-    }
-    (fields[2] != 0) | (fields[6] != 0)
 }
 
 fn scatter_given(fields: &[u64; 8]) -> ScatterFields
@@ -206,11 +179,9 @@ pub fn encode_given(fields: &[u64; 8]) -> Encoded
     if is_misgiven(feature, fields) {
         return Encoded::Fields;
     }
-    if feature == 0 {
-        return encoding::encode(Store::Scatter(scatter_given(fields)));
+    match feature {
+        Feature::SVE => encoding::encode(Store::Scatter(scatter_given(fields))),
+        Feature::SME2 => encoding::encode(Store::Strided(strided_given(fields))),
+        Feature::SVE2p1 => encoding::encode(Store::Quadword(quadword_given(fields))),
     }
-    if feature == 1 {
-        return encoding::encode(Store::Strided(strided_given(fields)));
-    }
-    encoding::encode(Store::Quadword(quadword_given(fields)))
 }

@@ -11,7 +11,7 @@ use Rattle.writes.specs.Encoding.{PatchOf}
 use Rattle.writes.specs.Sets.{ByteWrite, Run, run, runs, overlay}
 use Rattle.writes.specs.Statements.{Among, here, there}
 use Rattle.writes.specs.Window.{windowOk, inWindow}
-use Rattle.writes.proofs.Order.{two, absurdly}
+use Rattle.writes.proofs.Order.{two, absurdly, not-both}
 use Rattle.writes.proofs.Overlay.{length-overlay, getD-overlay}
 use Rattle.writes.proofs.Runs.{bytes-encode}
 use Rattle.patch.specs.Answers.{appliedNumber}
@@ -26,10 +26,6 @@ use Rattle.demands.specs.Demand2.{SomeRunOutside, ApplyingDecided, Outsi
 use Rattle.demands.specs.Demand3.{LaysTheSet}
 
 -- ---- demand 1
-
-both : {X : Type 0} (b : Bool) → b ≡ true → b ≡ false → X
-both true p q = absurdly cc
-both false p q = absurdly cc
 
 bytes-or-not : (s : List ℕ) → Bytes s ⊎ (Bytes s → ⊥)
 bytes-or-not [] = inl tt
@@ -47,13 +43,13 @@ module _ (W : ℕ) (mem s : List ℕ) (f : Bytes s → ⊥) where
   only-window : windowOk W (length mem) ≡ false → (r : Applied) (mem′ : List ℕ) → AppliedTo W mem s r mem′ → (r ≡ Window) × (mem′ ≡ mem)
   unfolding AppliedTo
   only-window e Window mem′ h = (refl, h .1)
-  only-window e BadPatch mem′ h = both (windowOk W (length mem)) (h .0) e
-  only-window e (Outside k a) mem′ h = both (windowOk W (length mem)) (h .0) e
-  only-window e (Done k t) mem′ h = both (windowOk W (length mem)) (h .0) e
+  only-window e BadPatch mem′ h = not-both (windowOk W (length mem)) (h .0) e
+  only-window e (Outside k a) mem′ h = not-both (windowOk W (length mem)) (h .0) e
+  only-window e (Done k t) mem′ h = not-both (windowOk W (length mem)) (h .0) e
 
   only-bad : windowOk W (length mem) ≡ true → (r : Applied) (mem′ : List ℕ) → AppliedTo W mem s r mem′ → (r ≡ BadPatch) × (mem′ ≡ mem)
   unfolding AppliedTo
-  only-bad e Window mem′ h = both (windowOk W (length mem)) e (h .0)
+  only-bad e Window mem′ h = not-both (windowOk W (length mem)) e (h .0)
   only-bad e BadPatch mem′ h = (refl, h .2)
   only-bad e (Outside k a) mem′ h = absurd (f (patch-bytes (h .1 .0) s (h .1 .1)))
   only-bad e (Done k t) mem′ h = absurd (f (patch-bytes (h .1 .0) s (h .1 .1)))
@@ -156,23 +152,23 @@ pub applying-decided : ApplyingDecided
 unfolding AppliedTo
 applying-decided W mem s Window mem′ h = (
   ((λ e. h .0), (λ w. refl)),
-  ((λ e. absurd (omega (arith, e))), (λ w. both (windowOk W (length mem)) (w .0) (h .0))),
-  ((λ e. absurd (omega (arith, e))), (λ w. both (windowOk W (length mem)) (w .0) (h .0))),
+  ((λ e. absurd (omega (arith, e))), (λ w. not-both (windowOk W (length mem)) (w .0) (h .0))),
+  ((λ e. absurd (omega (arith, e))), (λ w. not-both (windowOk W (length mem)) (w .0) (h .0))),
 )
 applying-decided W mem s BadPatch mem′ h = (
-  ((λ e. absurd (omega (arith, e))), (λ w. both (windowOk W (length mem)) (h .0) w)),
+  ((λ e. absurd (omega (arith, e))), (λ w. not-both (windowOk W (length mem)) (h .0) w)),
   ((λ e. (h .0, λ x. h .1 (x .0) (x .1))), (λ w. refl)),
   ((λ e. absurd (omega (arith, e))), (λ w. absurd (h .1 (w .1 .0) (w .1 .1)))),
 )
 applying-decided W mem s (Outside k a) mem′ h =
     let x = h .1 in (
-      ((λ e. absurd (omega (arith, e))), (λ w. both (windowOk W (length mem)) (h .0) w)),
+      ((λ e. absurd (omega (arith, e))), (λ w. not-both (windowOk W (length mem)) (h .0) w)),
       ((λ e. absurd (omega (arith, e))), (λ w. absurd (w .1 (x .0, x .1)))),
       ((λ e. (h .0, (x .0, x .1, some-outside W (length mem) k a (runs (x .0)) (x .2)))), (λ w. refl)),
     )
 applying-decided W mem s (Done k t) mem′ h =
     let x = h .1 in (
-      ((λ e. absurd (omega (arith, e))), (λ w. both (windowOk W (length mem)) (h .0) w)),
+      ((λ e. absurd (omega (arith, e))), (λ w. not-both (windowOk W (length mem)) (h .0) w)),
       ((λ e. absurd (omega (arith, e))), (λ w. absurd (w .1 (x .0, x .1)))),
       (
         (λ e. absurd (omega (arith, e))),
@@ -181,7 +177,7 @@ applying-decided W mem s (Done k t) mem′ h =
             let o = w .1 .2 in
             let m = subst (Among (o .0) (o .1)) (same S (x .0) s (w .1 .1) (x .1)) (o .2) in
             let i = none-outside W (length mem) 0 (runs (x .0)) (x .2) (o .0) (o .1) m in
-            both (inWindow W (length mem) (o .0) (length (o .1))) i (o .3)),
+            not-both (inWindow W (length mem) (o .0) (length (o .1))) i (o .3)),
       ),
     )
 

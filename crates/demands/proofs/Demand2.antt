@@ -4,6 +4,8 @@ use lib.ListN.{replicate}
 use Rattle.encoding.specs.Classes.{classes}
 use Rattle.encoding.proofs.Statements.{decodes-its-class, undefined-outside, one-class-only, refused-for-a-cause}
 use Rattle.encoding.proofs.Statements.{encodes-decoded, decodes-encoded}
+use Rattle.encoding.proofs.Numbers.{numbers-from-bits}
+use Rattle.codec.proofs.Statements.{encodes-decoded-numbers, decodes-encoded-numbers, refuses-numbers}
 use Rattle.checks.specs.Verdicts.{number, numbers}
 use Rattle.checks.specs.declared.Verdict.{Verdict}
 use Rattle.checks.specs.declared.Verdict.the-variants.{Done, Length, Registers, Window, Undefined, Illegal, Stack, Fault}
@@ -36,6 +38,9 @@ demand2 =
       one-class = one-class-only;
       encodes-decoded = encodes-decoded;
       decodes-encoded = decodes-encoded;
+      numbers-from-bits = numbers-from-bits;
+      encodes-decoded-numbers = encodes-decoded-numbers;
+      decodes-encoded-numbers = decodes-encoded-numbers;
       each-active = lists-the-active;
       element-bytes = element-bytes;
       ascending = in-ascending-order;
@@ -45,11 +50,13 @@ demand2 =
       making = making-decided;
       applying = applying-decided;
       encoding = refused-for-a-cause;
+      encoding-numbers = refuses-numbers;
       fault-names = fault-names-the-lowest;
       making-names = makes-as-it-runs;
       outside-names = outside-names-the-lowest;
       running-returns = running-returns;
       making-returns = ((λ n b k. refl), refl, (λ v. refl));
       applying-returns = ((λ k t. refl), (λ k a. refl), refl, refl);
+      judging-returns = ((λ k t. (refl, refl)), (λ k a. (refl, refl)));
       codec-returns = (refl, refl);
     }

@@ -15,8 +15,8 @@ use Rattle.writes.specs.Sets.{runs, overlay}
 use Rattle.writes.specs.Window.{windowOk}
 use Rattle.writes.proofs.Fillings.{WritesIn, bytes-replicate, same-set}
 use Rattle.writes.proofs.Runs.{bytes-encode}
-use Rattle.writes.proofs.Statements.{equal-lookups, runs-as-described, runs-keep-the-rules, written-last}
-use Rattle.writes.proofs.Statements.{laid-as-written, net-effect-in-window}
+use Rattle.writes.proofs.Statements.{equal-lookups, runs-as-described, run-at-each-start, runs-keep-the-rules, encoding-length}
+use Rattle.writes.proofs.Statements.{largest-patch, written-last, laid-as-written, net-effect-in-window}
 use Rattle.elements.specs.Machine.{Machine}
 use Rattle.checks.specs.Verdicts.{verdictOf, elementsFor, number}
 use Rattle.running.specs.Running.{memoryAfter, Ran}
@@ -28,7 +28,7 @@ use Rattle.making.specs.declared.Making.the-variants as M
 use Rattle.patch.specs.Answers.{appliedNumber}
 use Rattle.patch.specs.Applying.{AppliedTo}
 use Rattle.patch.specs.declared.Applied.the-variants as A
-use Rattle.patch.proofs.Statements.{read-as-patch, whatever-window, one-encoding, none-shared, one-outcome, applied-inside}
+use Rattle.patch.proofs.Statements.{read-as-patch, whatever-window, judges-alike, one-encoding, none-shared, one-outcome, applied-inside}
 use Rattle.demands.specs.Conditions.{conditions}
 use Rattle.demands.specs.Demand3.{DoneOver, HandsOut, Filling, HasAPatch, SamePatches, AppliesAsItRuns, Demand3}
 use Rattle.demands.proofs.Applying.{lays-the-set}
@@ -165,13 +165,17 @@ demand3 =
       keeps-behind = keeps-behind;
       written-last = written-last;
       runs-described = runs-as-described;
+      run-at-each-start = run-at-each-start;
       runs-sorted = runs-keep-the-rules;
       same = same-patches;
       applies = applies-as-it-runs;
       lays = lays-the-set;
       read-as-patch = read-as-patch;
       whatever-window = whatever-window;
+      judges-alike = judges-alike;
       equal-lookups = equal-lookups;
+      encoding-length = encoding-length;
+      largest-patch = largest-patch;
       one-encoding = one-encoding;
       none-shared = none-shared;
     }

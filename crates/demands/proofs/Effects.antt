@@ -6,18 +6,17 @@ use mathlib.Core.List.{List, [], _∷_}
 use mathlib.Core.Option.{none}
 use native.Mathlib.Nat.{mul-assoc, mul-le-mul, mul-le-mul-left, mul-le-mul-right}
 use native.Mathlib.Omega.{arith}
-use lib.ListN.{length, take, drop}
-use Rattle.encoding.specs.Classes.{SME2}
+use lib.ListN.{length, drop}
+use borrow.Author.Tests.{not-false}
 use Rattle.encoding.specs.Decoding.{decodeOf}
-use Rattle.encoding.specs.Encoding.{classFor, rowFor, refused}
+use Rattle.encoding.specs.Encoding.{classFor, refused}
 use Rattle.encoding.specs.declared.Decoded.{Decoded}
 use Rattle.encoding.specs.declared.Decoded.the-variants as D
 use Rattle.encoding.specs.declared.Store.{Store}
 use Rattle.encoding.specs.declared.Store.the-variants.{Scatter, Strided, Quadword}
 use Rattle.encoding.specs.declared.StridedFields.{StridedFields}
-use Rattle.encoding.proofs.Rows.{row-holds}
 use Rattle.encoding.proofs.Statements.{known-accepted}
-use Rattle.writes.specs.LittleEndian.{Bytes, leVal}
+use Rattle.writes.specs.LittleEndian.{Bytes}
 use Rattle.writes.specs.Elements.{Element, InSpace, InWindow, netEffect}
 use Rattle.writes.specs.Encoding.{encode, Within}
 use Rattle.writes.specs.Sets.{runs}
@@ -25,11 +24,12 @@ use Rattle.writes.specs.Sizes.{maxRuns, maxBytes}
 use Rattle.writes.specs.Window.{windowOk, inWindow}
 use Rattle.writes.proofs.Counting.{OfSize, in-space, starts, starts-length, runs-starts, length-net}
 use Rattle.writes.proofs.LittleEndian.{bytes-take, bytes-drop}
+use Rattle.writes.proofs.Order.{absurdly}
 use Rattle.writes.proofs.Runs.{length-encode}
 use Rattle.writes.proofs.Statements.{net-effect-is-a-set}
 use Rattle.writes.proofs.Windows.{window-inv, in-window-inv}
-use Rattle.elements.specs.Counter.{maskBit}
-use Rattle.elements.specs.Machine.{Machine, predicate, vector}
+use Rattle.elements.specs.Counter.{counterOf, maskBit}
+use Rattle.elements.specs.Machine.{Machine, vector}
 use Rattle.elements.specs.Stores.{stepOf, sizeOf, perRegister, countOf, startOf, registerIn, placeIn}
 use Rattle.elements.specs.Elements.{activeAt, elementAt, elements}
 use Rattle.elements.specs.Plans.{VectorSound, scatterPlan, quadwordPlan}
@@ -37,7 +37,7 @@ use Rattle.elements.specs.declared.VectorPlan.{VectorPlan}
 use Rattle.elements.proofs.Listing.{scatter-count, quadword-count}
 use Rattle.elements.proofs.Shapes.{scatter-in, quadword-in, strided-in}
 use Rattle.elements.proofs.Soundness.{scatter-sound, quadword-sound, strided-sound}
-use Rattle.elements.proofs.Stretches.{OneStretch, counter-stretch, actives-length, actives-sized, stretch-start, doublewords}
+use Rattle.elements.proofs.Stretches.{OneStretch, counter-stretch, actives-length, actives-sized, stretch-start}
 use Rattle.checks.specs.Steps.{Sound}
 use Rattle.checks.specs.Verdicts.{lengthOk, registersOk, elementsFor}
 use Rattle.checks.specs.declared.Flags.{Flags}
@@ -64,12 +64,8 @@ holds-none (b ∷ bs) h = ap (λ (c : Bool). cond c 1 (onward (firstHolding bs))
 
 -- ---- what that says of a store
 
-not-off : (b : Bool) → not b ≡ false → b ≡ true
-not-off true e = refl
-not-off false e = let z : _≡_ {A = ℕ} 0 1 = cc in absurd (omega arith)
-
 known : (f : Flags) (d : Decoded) → undefinedIs f d ≡ false → (s : Store) × (d ≡ D.Known s)
-known f D.Undefined e = let z : _≡_ {A = ℕ} 0 1 = cc in absurd (omega arith)
+known f D.Undefined e = absurdly cc
 known f (D.Known s) e = (s, refl)
 
 none-outside : (W L : ℕ) (xs : List Element) → someOutside W L xs ≡ false → InWindow W L xs
@@ -79,7 +75,7 @@ none-outside W L (x ∷ xs) e = go (inWindow W L (x .address) (length (x .bytes)
     go : (b : Bool) → inWindow W L (x .address) (length (x .bytes)) ≡ b → not b || someOutside W L xs ≡ false
         → (someOutside W L xs ≡ false → InWindow W L xs) → InWindow W L (x ∷ xs)
     go true i q f = let w = in-window-inv W L (x .address) (length (x .bytes)) i in (w .0, w .1, f q)
-    go false i q f = let z : _≡_ {A = ℕ} 0 1 = cc in absurd (omega arith)
+    go false i q f = absurdly cc
 
 record Settled (m : Machine) (W L word : ℕ) : Type 0 where
   buffers : Sound (m .vb) (m .z) (m .p)
@@ -93,11 +89,11 @@ record Settled (m : Machine) (W L word : ℕ) : Type 0 where
 
 settled : (f : Flags) (m : Machine) (W L word : ℕ) → NoneDue f m W L word → Settled m W L word
 settled f m W L word h =
-    let ok = not-off (windowOk W L) (h .1 .1 .0) in
+    let ok = not-false (windowOk W L) (h .1 .1 .0) in
     let w = window-inv W L ok in
     let k = known f (decodeOf word) (h .1 .1 .1 .0) in
     record {
-      buffers = sound m (not-off (lengthOk (m .vb)) (h .0)) (not-off (registersOk m) (h .1 .0));
+      buffers = sound m (not-false (lengthOk (m .vb)) (h .0)) (not-false (registersOk m) (h .1 .0));
       window = ok;
       most = w .0;
       top = w .1;
@@ -177,14 +173,12 @@ module _ (m : Machine) (o : Sound (m .vb) (m .z) (m .p)) (lent : Bytes (m .z)) w
   module _ (f : StridedFields) (a : refused (Strided f) ≡ false) (W L : ℕ) (most : L ≤ 65536) (top : W + L ≤ 2 ^ 64)
       (fit : InWindow W L (elements m (Strided f))) (space : InSpace (elements m (Strided f))) where
     eight : (stepOf (classFor (Strided f)) ≡ 8) × (sizeOf (classFor (Strided f)) ≡ 8)
-    eight =
-        let r = strided-in f a .row in
-        doublewords (rowFor (Strided f)) r (row-holds (f .class) SME2 r .1)
+    eight = let s = strided-in f a in (s .step, s .size)
 
     stretch : OneStretch (activeAt m (Strided f))
     unfolding activeAt
     stretch =
-        let v = leVal (take 2 (predicate m (8 + f .pc))) in
+        let v = counterOf m (f .pc) in
         subst (λ (k : ℕ). OneStretch (λ (i : ℕ). maskBit v (i * k))) (sym (eight .0)) (counter-stretch v)
 
     one-run : starts none (elements m (Strided f)) ≤ 1

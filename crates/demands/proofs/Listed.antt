@@ -6,7 +6,7 @@ use mathlib.Core.Option.{some}
 use Prim.Native.Nat.{ℕ, zero, suc, _+_, _≤_, _<_}
 use native.Mathlib.Omega.{arith}
 use lib.ListN.{length}
-use Rattle.writes.proofs.Order.{two}
+use Rattle.writes.proofs.Order.{two, absurdly}
 use Rattle.writes.specs.Elements.{Element}
 use Rattle.writes.specs.Window.{inWindow}
 use Rattle.elements.specs.Elements.{actives}
@@ -53,7 +53,7 @@ module _ (on : ℕ → Bool) (el : ℕ → Element) where
     where
       go : (b : Bool) → b ≡ true → Listed (el k) (cond b (el k ∷ actives on el n (suc k)) (actives on el n (suc k)))
       go true p = here
-      go false p = let z : _≡_ {A = ℕ} 0 1 = cc in absurd (omega arith)
+      go false p = absurdly cc
   among-listed (suc n) k (suc d) h q =
       let w : k + suc d ≡ suc k + d = omega arith in
       subst (λ (e : ℕ). Listed (el e) (cond (on k) (el k ∷ actives on el n (suc k)) (actives on el n (suc k)))) (sym w)
@@ -92,7 +92,7 @@ module _ (on : ℕ → Bool) (el : ℕ → Element) where
 
     pub first-outside : (n k : ℕ) (x : Element) → firstOutside W L (actives on el n k) ≡ some x → Lowest k n x
     unfolding actives firstOutside
-    first-outside zero k x e = let z : _≡_ {A = ℕ} 0 1 = cc in absurd (omega arith)
+    first-outside zero k x e = absurdly cc
     first-outside (suc n) k x e = go (on k) refl e (first-outside n (suc k) x)
       where
         out : (b : Bool) → lies k ≡ b → on k ≡ true → (firstOutside W L (actives on el n (suc k)) ≡ some x → Lowest (suc k) n x)
@@ -108,4 +108,4 @@ module _ (on : ℕ → Bool) (el : ℕ → Element) where
         go : (b : Bool) → on k ≡ b → firstOutside W L (cond b (el k ∷ actives on el n (suc k)) (actives on el n (suc k))) ≡ some x
             → (firstOutside W L (actives on el n (suc k)) ≡ some x → Lowest (suc k) n x) → Lowest k (suc n) x
         go true q p f = out (lies k) refl q f p
-        go false q p f = past k n x (λ r. let z : _≡_ {A = ℕ} 0 1 = cc in absurd (omega arith)) (f p)
+        go false q p f = past k n x (λ r. absurdly cc) (f p)

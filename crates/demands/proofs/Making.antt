@@ -1,6 +1,6 @@
 -- What the demands say of making a patch, over any verdict that running would give. Assumes nothing.
 use mathlib.Core.Path.{_≡_, refl, sym, ap, ap₂, _∙_, subst}
-use Prim.Native.Nat.{ℕ, zero, suc, _+_, _≤_}
+use Prim.Native.Nat.{ℕ, zero, suc, _≤_}
 use mathlib.Core.Bool.{Bool, true, false, cond}
 use mathlib.Core.List.{List, [], _∷_, _++_}
 use native.Mathlib.Omega.{arith}
@@ -8,6 +8,7 @@ use borrow.Author.Tests.{ltb-true, ltb-false, lt-ltb, le-ltb}
 use lib.Dec.{ltb}
 use lib.ListN.{length, take, drop}
 use lib.Seq.{take-at, drop-at}
+use Rattle.writes.proofs.Order.{absurdly}
 use Rattle.elements.specs.Machine.{Machine}
 use Rattle.checks.specs.Verdicts.{verdictOf, number}
 use Rattle.checks.specs.declared.Flags.{Flags}
@@ -168,15 +169,15 @@ done-as : (v : Verdict) (patch : List ℕ) (room n b k : ℕ) → makingOf v pat
 done-as (Done n′ b′) patch room n b k e = go (ltb room (length patch)) e
   where
     go : (t : Bool) → cond t M.NoRoom (M.Done n′ b′ (length patch)) ≡ M.Done n b k → (Done n′ b′ ≡ Done n b) × (k ≡ length patch)
-    go true q = let z : _≡_ {A = ℕ} 0 1 = cc in absurd (omega arith)
+    go true q = absurdly cc
     go false q = (cc, cc)
-done-as Length patch room n b k e = let z : _≡_ {A = ℕ} 0 1 = cc in absurd (omega arith)
-done-as Registers patch room n b k e = let z : _≡_ {A = ℕ} 0 1 = cc in absurd (omega arith)
-done-as Window patch room n b k e = let z : _≡_ {A = ℕ} 0 1 = cc in absurd (omega arith)
-done-as Undefined patch room n b k e = let z : _≡_ {A = ℕ} 0 1 = cc in absurd (omega arith)
-done-as Illegal patch room n b k e = let z : _≡_ {A = ℕ} 0 1 = cc in absurd (omega arith)
-done-as Stack patch room n b k e = let z : _≡_ {A = ℕ} 0 1 = cc in absurd (omega arith)
-done-as (Fault i a) patch room n b k e = let z : _≡_ {A = ℕ} 0 1 = cc in absurd (omega arith)
+done-as Length patch room n b k e = absurdly cc
+done-as Registers patch room n b k e = absurdly cc
+done-as Window patch room n b k e = absurdly cc
+done-as Undefined patch room n b k e = absurdly cc
+done-as Illegal patch room n b k e = absurdly cc
+done-as Stack patch room n b k e = absurdly cc
+done-as (Fault i a) patch room n b k e = absurdly cc
 
 pub made-length : (f : Flags) (m : Machine) (W L : ℕ) (buffer : List ℕ) (word n b k : ℕ) (buffer′ : List ℕ)
     → Made f m W L buffer word (M.Done n b k) buffer′ → k ≡ length (patchOf m word)

@@ -1,15 +1,14 @@
 -- What demands 1 and 2 say of running a store. Assumes nothing.
 use mathlib.Core.Path.{_≡_, refl, sym, ap, _∙_, subst}
-use mathlib.Core.Bool.{Bool, true, false, not, cond, _&&_, _||_}
+use mathlib.Core.Bool.{Bool, true, false, not, cond, _||_}
 use mathlib.Core.List.{List, [], _∷_}
 use mathlib.Core.Option.{Option, none, some, Option·getD}
-use Prim.Native.Nat.{ℕ, zero, suc, _+_, _-_, _*_, _≤_, _<_}
+use Prim.Native.Nat.{ℕ, zero, suc, _+_, _*_, _≤_, _<_}
 use native.Mathlib.Nat.{one-mul}
 use native.Mathlib.Omega.{arith}
 use lib.ListN.{length, getD, take, drop, length-take, length-drop}
-use lib.Dec.{T, eqb}
+use lib.Dec.{eqb}
 use borrow.Author.Tests.{eqb-true}
-use lib.Ieee.Fits.{and-l, and-r}
 use lib.Seq.{getD-take, getD-drop}
 use Rattle.encoding.specs.Decoding.{decodeOf}
 use Rattle.encoding.specs.Encoding.{classFor, featureOf, refused}
@@ -21,9 +20,9 @@ use Rattle.encoding.specs.declared.Store.the-variants.{Scatter, Strided, Quadwo
 use Rattle.writes.specs.Elements.{Element, InWindow, netEffect}
 use Rattle.writes.specs.Sets.{overlay}
 use Rattle.writes.specs.Window.{windowOk, inWindow}
+use Rattle.writes.proofs.Order.{absurdly, both}
 use Rattle.writes.proofs.Overlay.{length-overlay, getD-overlay}
 use Rattle.writes.proofs.Statements.{laid-as-written, written-last}
-use Rattle.writes.proofs.Windows.{in-window-inv}
 use Rattle.elements.specs.Machine.{Machine, register}
 use Rattle.elements.specs.Stores.{sizeOf, stepOf, perRegister, countOf, registerIn, placeIn}
 use Rattle.elements.specs.Elements.{activeAt, elementAt, actives, elements}
@@ -32,16 +31,18 @@ use Rattle.elements.proofs.Planning.{register-in, register-long}
 use Rattle.elements.proofs.Shapes.{scatter-in, quadword-in, strided-in}
 use Rattle.elements.proofs.Soundness.{scatter-sound, quadword-sound, strided-sound}
 use Rattle.checks.specs.Steps.{Sound}
-use Rattle.checks.specs.Verdicts.{lengthOk, registersOk, flagOn, illegal, onStack, stack, firstOutside, concluded, settled, verdictFor, verdictOf, elementsFor, number}
+use Rattle.checks.specs.Verdicts.{lengthOk, registersOk, flagOn, illegal, onStack, stack, firstOutside, concluded, settled}
+use Rattle.checks.specs.Verdicts.{verdictFor, verdictOf, elementsFor, number}
 use Rattle.running.specs.Running.{memoryAfter, Ran}
 use Rattle.demands.specs.Conditions.{undefinedIs, illegalIs, stackIs, someOutside, faultIs, conditions, onward, firstHolding}
 use Rattle.demands.specs.Demand1.{ExactlyOne}
-use Rattle.demands.specs.Demand2.{PlaceByPlace, Listed, ListsTheActive, liesIn, FaultNamesTheLowest, Rising, InAscendingOrder, CountsOfDone, ElementBytes, RunningDecided}
+use Rattle.demands.specs.Demand2.{PlaceByPlace, Listed, ListsTheActive, liesIn, FaultNamesTheLowest, Rising, InAscendingOrder}
+use Rattle.demands.specs.Demand2.{CountsOfDone, ElementBytes, RunningDecided}
 use Rattle.checks.specs.declared.Flags.{Flags}
 use Rattle.checks.specs.declared.Verdict.{Verdict}
 use Rattle.checks.specs.declared.Verdict.the-variants.{Done, Length, Registers, Window, Undefined, Illegal, Stack, Fault}
 use Rattle.checks.proofs.Concluding.{length-sound}
-use Rattle.checks.proofs.Clearing.{inside-all, for-done as known-done}
+use Rattle.checks.proofs.Clearing.{for-done as known-done}
 use Rattle.running.proofs.Outcomes.{kept}
 use Rattle.demands.proofs.Listed.{listed-among, listed-at, first-outside}
 use Rattle.checks.proofs.Spans.{bytes-in, place-in, register-below}
@@ -80,7 +81,7 @@ record IsDone (m : Machine) (W L n b : ℕ) (d : Decoded) : Type 0 where
   bytes-are : (s : Store) → d ≡ D.Known s → b ≡ length (elementsFor m d) * sizeOf (classFor s)
 
 for-done : (f : Flags) (m : Machine) (W L n b : ℕ) (d : Decoded) → verdictFor f m W L d ≡ Done n b → IsDone m W L n b d
-for-done f m W L n b D.Undefined e = let z : _≡_ {A = ℕ} 0 1 = cc in absurd (omega arith)
+for-done f m W L n b D.Undefined e = absurdly cc
 for-done f m W L n b (D.Known s) e =
     let t = known-done f m W L n b s (sym e) in
     let q : Done n b ≡ Done (length (elements m s)) (length (elements m s) * sizeOf (classFor s)) = t .counts in
@@ -98,10 +99,11 @@ done-is : (f : Flags) (m : Machine) (W L word n b : ℕ) → verdictOf f m W L w
 unfolding verdictOf
 done-is f m W L word n b e = go (not (lengthOk (m .vb))) (not (registersOk m)) (not (windowOk W L)) e
   where
-    go : (a c d : Bool) → cond a Length (cond c Registers (cond d Window (verdictFor f m W L (decodeOf word)))) ≡ Done n b → IsDone m W L n b (decodeOf word)
-    go true c d q = let z : _≡_ {A = ℕ} 0 1 = cc in absurd (omega arith)
-    go false true d q = let z : _≡_ {A = ℕ} 0 1 = cc in absurd (omega arith)
-    go false false true q = let z : _≡_ {A = ℕ} 0 1 = cc in absurd (omega arith)
+    go : (a c d : Bool) → cond a Length (cond c Registers (cond d Window (verdictFor f m W L (decodeOf word)))) ≡ Done n b
+        → IsDone m W L n b (decodeOf word)
+    go true c d q = absurdly cc
+    go false true d q = absurdly cc
+    go false false true q = absurdly cc
     go false false false q = for-done f m W L n b (decodeOf word) q
 
 pub place-by-place : PlaceByPlace
@@ -110,7 +112,10 @@ place-by-place f m W mem word n b mem′ r =
     let d = done-is f m W (length mem) word n b (sym (r .answer)) in
     let q : mem′ ≡ overlay W mem (netEffect xs) = r .memory ∙ sym (laid-as-written W mem xs (d .inside)) in (
       ap length q ∙ length-overlay W mem (netEffect xs),
-      (λ i h. ap (λ (l : List ℕ). getD l i 0) q ∙ getD-overlay W mem (netEffect xs) i h ∙ ap (λ (o : Option ℕ). Option·getD o (getD mem i 0)) (written-last xs (W + i))),
+      (λ i h.
+          ap (λ (l : List ℕ). getD l i 0) q
+          ∙ getD-overlay W mem (netEffect xs) i h
+          ∙ ap (λ (o : Option ℕ). Option·getD o (getD mem i 0)) (written-last xs (W + i))),
     )
 
 pub counts-of-done : CountsOfDone
@@ -119,13 +124,17 @@ counts-of-done f m W mem word n b mem′ s r e =
     let q : elementsFor m (decodeOf word) ≡ elements m s = ap (elementsFor m) e in
     (d .elements-are ∙ ap length q, d .bytes-are s e ∙ ap (λ (xs : List Element). length xs * sizeOf (classFor s)) q)
 
+-- the active ones of n elements behind number e
+abbrev later : Machine → Store → ℕ → ℕ → List Element
+later m s n e = actives (activeAt m s) (elementAt m s) n (suc e)
+
 rising : (m : Machine) (s : Store) (n e k : ℕ) → k ≤ e → Rising k (actives (activeAt m s) (elementAt m s) n e)
 unfolding actives elementAt
 rising m s zero e k h = tt
 rising m s (suc n) e k h = go (activeAt m s e) (rising m s n (suc e) (suc e) (omega arith)) (rising m s n (suc e) k (omega arith))
   where
-    go : (b : Bool) → Rising (suc e) (actives (activeAt m s) (elementAt m s) n (suc e)) → Rising k (actives (activeAt m s) (elementAt m s) n (suc e))
-        → Rising k (cond b (elementAt m s e ∷ actives (activeAt m s) (elementAt m s) n (suc e)) (actives (activeAt m s) (elementAt m s) n (suc e)))
+    go : (b : Bool) → Rising (suc e) (later m s n e) → Rising k (later m s n e)
+        → Rising k (cond b (elementAt m s e ∷ later m s n e) (later m s n e))
     go true p q = (h, p)
     go false p q = q
 
@@ -181,17 +190,14 @@ pub sound : (m : Machine) → lengthOk (m .vb) ≡ true → registersOk m ≡ tr
 unfolding registersOk
 sound m v r =
     let b = length-sound (m .vb) v in
-    let t : T (eqb (length (m .z)) (32 * m .vb) && eqb (length (m .p)) (2 * m .vb)) = subst T (sym r) tt in
+    let t = both (eqb (length (m .z)) (32 * m .vb)) (eqb (length (m .p)) (2 * m .vb)) r in
     record {
       low = b .low;
       high = b .high;
       sixteen = b .sixteen;
-      long-z = eqb-true (length (m .z)) (32 * m .vb) (told _ (and-l (eqb (length (m .z)) (32 * m .vb)) (eqb (length (m .p)) (2 * m .vb)) t));
-      long-p = eqb-true (length (m .p)) (2 * m .vb) (told _ (and-r (eqb (length (m .z)) (32 * m .vb)) (eqb (length (m .p)) (2 * m .vb)) t));
+      long-z = eqb-true (length (m .z)) (32 * m .vb) (t .0);
+      long-p = eqb-true (length (m .p)) (2 * m .vb) (t .1);
     }
-  where
-    told : (c : Bool) → T c → c ≡ true
-    told true x = refl
 
 pub element-bytes : ElementBytes
 element-bytes m word s e v r d h = element-of m s e (sound m v r) (known-accepted word s d) h
@@ -202,7 +208,9 @@ pub lists-the-active : ListsTheActive
 unfolding elements
 lists-the-active m s x = (
   (λ l. let a = listed-among (activeAt m s) (elementAt m s) (countOf m s) 0 x l in (a .at, omega (arith, a .below), a .is-on, a .is)),
-  (λ a. subst (λ (y : Element). Listed y (elements m s)) (sym (a .3)) (listed-at (activeAt m s) (elementAt m s) (countOf m s) (a .0) (a .1) (a .2))),
+  (λ a.
+      subst (λ (y : Element). Listed y (elements m s)) (sym (a .3))
+      (listed-at (activeAt m s) (elementAt m s) (countOf m s) (a .0) (a .1) (a .2))),
 )
 
 -- ---- the order of the verdicts
@@ -217,22 +225,28 @@ unfolding firstOutside
 found-outside W L [] = refl
 found-outside W L (x ∷ xs) = go (inWindow W L (x .address) (length (x .bytes))) (found-outside W L xs)
   where
-    go : (b : Bool) → found (firstOutside W L xs) ≡ someOutside W L xs → found (cond b (firstOutside W L xs) (some x)) ≡ not b || someOutside W L xs
+    go : (b : Bool) → found (firstOutside W L xs) ≡ someOutside W L xs
+        → found (cond b (firstOutside W L xs) (some x)) ≡ not b || someOutside W L xs
     go true e = e
     go false e = refl
 
+-- the number of the first that holds of conditions 4 to 7
+abbrev fromFour : Bool → Bool → Bool → Bool → ℕ
+fromFour a b c d = onward (onward (onward (firstHolding (a ∷ b ∷ c ∷ d ∷ []))))
+
 last-four : (f : Flags) (m : Machine) (W L : ℕ) (d : Decoded)
-    → number (verdictFor f m W L d) ≡ onward (onward (onward (firstHolding (undefinedIs f d ∷ illegalIs f d ∷ stackIs f m d ∷ faultIs m W L d ∷ []))))
+    → number (verdictFor f m W L d) ≡ fromFour (undefinedIs f d) (illegalIs f d) (stackIs f m d) (faultIs m W L d)
 unfolding settled
 last-four f m W L D.Undefined = refl
 last-four f m W L (D.Known s) =
-    go (not (flagOn f (featureOf s))) (illegal f (featureOf s)) (stack f (m .sp) (onStack s) (elements m s)) (firstOutside W L (elements m s))
-    ∙ ap (λ (b : Bool). onward (onward (onward (firstHolding (undefinedIs f (D.Known s) ∷ illegalIs f (D.Known s) ∷ stackIs f m (D.Known s) ∷ b ∷ [])))))
-    (found-outside W L (elements m s))
+    let d = D.Known s in
+    let xs = elements m s in
+    go (not (flagOn f (featureOf s))) (illegal f (featureOf s)) (stack f (m .sp) (onStack s) xs) (firstOutside W L xs)
+    ∙ ap (λ (b : Bool). fromFour (undefinedIs f d) (illegalIs f d) (stackIs f m d) b) (found-outside W L xs)
   where
     go : (a c d : Bool) (o : Option Element)
         → number (cond a Undefined (cond c Illegal (cond d Stack (concluded o (sizeOf (classFor s)) (elements m s)))))
-        ≡ onward (onward (onward (firstHolding (a ∷ c ∷ d ∷ found o ∷ []))))
+        ≡ fromFour a c d (found o)
     go true c d o = refl
     go false true d o = refl
     go false false true o = refl
@@ -245,7 +259,7 @@ verdict-decided f m W L word = go (not (lengthOk (m .vb))) (not (registersOk m))
   where
     go : (a b c : Bool)
         → number (cond a Length (cond b Registers (cond c Window (verdictFor f m W L (decodeOf word)))))
-        ≡ firstHolding (a ∷ b ∷ c ∷ undefinedIs f (decodeOf word) ∷ illegalIs f (decodeOf word) ∷ stackIs f m (decodeOf word) ∷ faultIs m W L (decodeOf word) ∷ [])
+        ≡ firstHolding (a ∷ b ∷ c ∷ drop 3 (conditions f m W L word))
     go true b c = refl
     go false true c = refl
     go false false true = refl
@@ -263,20 +277,25 @@ record Faults (W L e a : ℕ) (xs : List Element) : Type 0 where
   number : e ≡ element .number
   address : a ≡ element .address
 
-concluded-fault : (W L k e a : ℕ) (xs : List Element) (o : Option Element) → firstOutside W L xs ≡ o → concluded o k xs ≡ Fault e a → Faults W L e a xs
-concluded-fault W L k e a xs none q p = let z : _≡_ {A = ℕ} 0 1 = cc in absurd (omega arith)
+concluded-fault : (W L k e a : ℕ) (xs : List Element) (o : Option Element) → firstOutside W L xs ≡ o → concluded o k xs ≡ Fault e a
+    → Faults W L e a xs
+concluded-fault W L k e a xs none q p = absurdly cc
 concluded-fault W L k e a xs (some x) q p = record { element = x; first = q; number = cc; address = cc }
 
-for-fault : (f : Flags) (m : Machine) (W L e a : ℕ) (s : Store) → verdictFor f m W L (D.Known s) ≡ Fault e a → Faults W L e a (elements m s)
+for-fault : (f : Flags) (m : Machine) (W L e a : ℕ) (s : Store) → verdictFor f m W L (D.Known s) ≡ Fault e a
+    → Faults W L e a (elements m s)
 unfolding settled
 for-fault f m W L e a s p =
     go (not (flagOn f (featureOf s))) (illegal f (featureOf s)) (stack f (m .sp) (onStack s) (elements m s)) p
   where
-    go : (b c d : Bool) → cond b Undefined (cond c Illegal (cond d Stack (concluded (firstOutside W L (elements m s)) (sizeOf (classFor s)) (elements m s)))) ≡ Fault e a
+    go : (b c d : Bool)
+        → cond b Undefined
+        (cond c Illegal (cond d Stack (concluded (firstOutside W L (elements m s)) (sizeOf (classFor s)) (elements m s))))
+        ≡ Fault e a
         → Faults W L e a (elements m s)
-    go true c d q = let z : _≡_ {A = ℕ} 0 1 = cc in absurd (omega arith)
-    go false true d q = let z : _≡_ {A = ℕ} 0 1 = cc in absurd (omega arith)
-    go false false true q = let z : _≡_ {A = ℕ} 0 1 = cc in absurd (omega arith)
+    go true c d q = absurdly cc
+    go false true d q = absurdly cc
+    go false false true q = absurdly cc
     go false false false q = concluded-fault W L (sizeOf (classFor s)) e a (elements m s) (firstOutside W L (elements m s)) refl q
 
 fault-is : (f : Flags) (m : Machine) (W L word e a : ℕ) (s : Store) → verdictOf f m W L word ≡ Fault e a → decodeOf word ≡ D.Known s
@@ -284,10 +303,11 @@ fault-is : (f : Flags) (m : Machine) (W L word e a : ℕ) (s : Store) → verdic
 unfolding verdictOf
 fault-is f m W L word e a s p k = go (not (lengthOk (m .vb))) (not (registersOk m)) (not (windowOk W L)) p
   where
-    go : (b c d : Bool) → cond b Length (cond c Registers (cond d Window (verdictFor f m W L (decodeOf word)))) ≡ Fault e a → Faults W L e a (elements m s)
-    go true c d q = let z : _≡_ {A = ℕ} 0 1 = cc in absurd (omega arith)
-    go false true d q = let z : _≡_ {A = ℕ} 0 1 = cc in absurd (omega arith)
-    go false false true q = let z : _≡_ {A = ℕ} 0 1 = cc in absurd (omega arith)
+    go : (b c d : Bool) → cond b Length (cond c Registers (cond d Window (verdictFor f m W L (decodeOf word)))) ≡ Fault e a
+        → Faults W L e a (elements m s)
+    go true c d q = absurdly cc
+    go false true d q = absurdly cc
+    go false false true q = absurdly cc
     go false false false q = for-fault f m W L e a s (ap (verdictFor f m W L) (sym k) ∙ q)
 
 pub fault-names-the-lowest : FaultNamesTheLowest

@@ -33,7 +33,8 @@ ThenApplied M.NoRoom W buffer copy r copy′ = (r ≡ false) × (copy′ ≡ cop
 ThenApplied (M.Refused v) W buffer copy r copy′ = (r ≡ false) × (copy′ ≡ copy)
 
 -- running a store over the window of `mem`, making its patch, and applying that to the window of `copy`
-pub record Replayed (f : Flags) (m : Machine) (W : ℕ) (mem copy : List ℕ) (word : ℕ) (buffer : List ℕ) (r : Bool) (mem′ copy′ buffer′ : List ℕ) : Type 0 where
+pub record Replayed (f : Flags) (m : Machine) (W : ℕ) (mem copy : List ℕ) (word : ℕ) (buffer : List ℕ) (r : Bool)
+    (mem′ copy′ buffer′ : List ℕ) : Type 0 where
   pub verdict : Verdict
   pub making : Making
   pub ran : Ran f m W mem word verdict mem′
@@ -50,7 +51,8 @@ lengthMade M.NoRoom = 0
 lengthMade (M.Refused v) = 0
 
 -- making the patches of two stores for one window, and comparing them
-pub record Compared (W L : ℕ) (f : Flags) (m : Machine) (word : ℕ) (f₁ : Flags) (m₁ : Machine) (word₁ : ℕ) (buffer buffer₁ : List ℕ) (r : Bool) (buffer′ buffer₁′ : List ℕ) : Type 0 where
+pub record Compared (W L : ℕ) (f : Flags) (m : Machine) (word : ℕ) (f₁ : Flags) (m₁ : Machine) (word₁ : ℕ) (buffer buffer₁ : List ℕ)
+    (r : Bool) (buffer′ buffer₁′ : List ℕ) : Type 0 where
   pub making : Making
   pub making₁ : Making
   pub made : Made f m W L buffer word making buffer′
@@ -60,5 +62,5 @@ pub record Compared (W L : ℕ) (f : Flags) (m : Machine) (word : ℕ) (f₁ : F
       ↔ ((makingNumber making ≡ 0) × (makingNumber making₁ ≡ 0) × (take (lengthMade making) buffer′ ≡ take (lengthMade making₁) buffer₁′))
   -- "Their patches are identical byte strings exactly when both stores leave the same memory from every initial filling of that
   -- window."
-  pub same : NoneDue f m W L word → NoneDue f₁ m₁ W L word₁ → length (patchOf m word) ≤ length buffer → length (patchOf m₁ word₁) ≤ length buffer₁
-      → (r ≡ true) ↔ LeaveTheSame W L f m word f₁ m₁ word₁
+  pub same : NoneDue f m W L word → NoneDue f₁ m₁ W L word₁ → length (patchOf m word) ≤ length buffer
+      → length (patchOf m₁ word₁) ≤ length buffer₁ → (r ≡ true) ↔ LeaveTheSame W L f m word f₁ m₁ word₁

@@ -6,14 +6,17 @@ use mathlib.Core.Logic.{_↔_}
 use mathlib.Core.Option.{Option·getD}
 use mathlib.Core.Path.{_≡_}
 use lib.ListN.{length, getD, replicate}
-use Rattle.encoding.specs.Answers.{decodedNumbers, encodedWord}
+use Rattle.encoding.specs.Answers.{decodedNumbers}
 use Rattle.encoding.specs.Classes.{classes}
 use Rattle.encoding.specs.Decoding.{decodeOf}
 use Rattle.encoding.specs.Encoding.{classFor}
-use Rattle.encoding.specs.Statements.{DecodesItsClass, UndefinedOutside, OneClass, EncodesDecoded, DecodesEncoded, RefusedForACause}
+use Rattle.encoding.specs.Statements.{DecodesItsClass, UndefinedOutside, OneClass}
+use Rattle.encoding.specs.Statements.{EncodesDecoded, DecodesEncoded, RefusedForACause, NumbersFromBits}
 use Rattle.encoding.specs.declared.Decoded.the-variants as D
 use Rattle.encoding.specs.declared.Encoded.the-variants as E
 use Rattle.encoding.specs.declared.Store.{Store}
+use Rattle.codec.specs.Codec.{encodedAnswers}
+use Rattle.codec.specs.Statements.{EncodesDecodedNumbers, DecodesEncodedNumbers, RefusesNumbers}
 use Rattle.writes.specs.Elements.{Element, lastAt}
 use Rattle.writes.specs.Encoding.{PatchOf}
 use Rattle.writes.specs.Sets.{ByteWrite, Run, run, runs}
@@ -30,11 +33,12 @@ use Rattle.checks.specs.declared.Verdict.the-variants.{Done, Fault}
 use Rattle.making.specs.Making.{patchOf, makingNumber, makingNumbers, Made}
 use Rattle.making.specs.declared.Making.{Making}
 use Rattle.making.specs.declared.Making.the-variants as M
-use Rattle.patch.specs.Answers.{appliedNumber, appliedNumbers}
+use Rattle.patch.specs.Answers.{appliedNumber, appliedNumbers, judgedNumber, judgedNumbers}
 use Rattle.patch.specs.Applying.{AppliedTo}
 use Rattle.patch.specs.Statements.{Encodes}
 use Rattle.patch.specs.declared.Applied.{Applied}
 use Rattle.patch.specs.declared.Applied.the-variants as A
+use Rattle.patch.specs.declared.Judged.the-variants as J
 use Rattle.demands.specs.Conditions.{conditions, makingConditions, firstHolding}
 
 -- ---- a done store's elements
@@ -168,9 +172,15 @@ ApplyingReturns =
     × (appliedNumbers A.Window ≡ replicate 5 0)
     × (appliedNumbers A.BadPatch ≡ replicate 5 0)
 
+-- judging answers 0 with runs and payload bytes, or 9 with the runs that are acceptable and where they end
+abbrev pub JudgingReturns : Type 0
+JudgingReturns =
+    ((k t : ℕ) → (judgedNumber (J.Patch k t) ≡ 0) × (judgedNumbers (J.Patch k t) ≡ 0 ∷ 0 ∷ k ∷ t ∷ 0 ∷ []))
+    × ((k a : ℕ) → (judgedNumber (J.NoPatch k a) ≡ 9) × (judgedNumbers (J.NoPatch k a) ≡ k ∷ a ∷ 0 ∷ 0 ∷ 0 ∷ []))
+
 -- a word of no class, and fields that are refused
 abbrev pub CodecReturns : Type 0
-CodecReturns = (decodedNumbers D.Undefined ≡ replicate 8 0) × (encodedWord E.Fields ≡ 0)
+CodecReturns = (decodedNumbers D.Undefined ≡ replicate 8 0) × (encodedAnswers E.Fields ≡ replicate 5 0)
 
 pub record Demand2 : Type 0 where
   -- "Decoding accepts exactly the twelve classes of document 01": a word belongs to a class by its bits, to no two of them
@@ -178,9 +188,12 @@ pub record Demand2 : Type 0 where
   pub accepts : DecodesItsClass
   pub no-others : UndefinedOutside
   pub one-class : OneClass
-  -- "and encoding is its inverse"
+  -- "and encoding is its inverse", of stores and of the eight numbers that callers exchange, which are read off the word's bits
   pub encodes-decoded : EncodesDecoded
   pub decodes-encoded : DecodesEncoded
+  pub numbers-from-bits : NumbersFromBits
+  pub encodes-decoded-numbers : EncodesDecodedNumbers
+  pub decodes-encoded-numbers : DecodesEncodedNumbers
   -- "A done store writes each active element as Arm's published steps say": `elementAt` gives its address and bytes by those steps
   pub each-active : ListsTheActive
   pub element-bytes : ElementBytes
@@ -194,6 +207,7 @@ pub record Demand2 : Type 0 where
   pub making : MakingDecided
   pub applying : ApplyingDecided
   pub encoding : RefusedForACause
+  pub encoding-numbers : RefusesNumbers
   -- "Returns besides the number" (document 01)
   pub fault-names : FaultNamesTheLowest
   pub making-names : MakesAsItRuns
@@ -201,4 +215,5 @@ pub record Demand2 : Type 0 where
   pub running-returns : RunningReturns
   pub making-returns : MakingReturns
   pub applying-returns : ApplyingReturns
+  pub judging-returns : JudgingReturns
   pub codec-returns : CodecReturns

@@ -9,7 +9,8 @@ use lib.ListN.{length, getD, take, drop}
 use Rattle.writes.specs.LittleEndian.{Bytes}
 use Rattle.writes.specs.Encoding.{PatchOf}
 use Rattle.writes.specs.Sets.{ByteWrite, lookup, runs}
-use Rattle.writes.specs.Statements.{EqualLookups, RunsAsDescribed, RunsKeepTheRules, WrittenLast}
+use Rattle.writes.specs.Statements.{EqualLookups, RunsAsDescribed, RunAtEachStart, RunsKeepTheRules, EncodingLength}
+use Rattle.writes.specs.Statements.{LargestPatch, WrittenLast}
 use Rattle.elements.specs.Machine.{Machine}
 use Rattle.checks.specs.Verdicts.{number}
 use Rattle.running.specs.Running.{Ran}
@@ -20,7 +21,7 @@ use Rattle.making.specs.declared.Making.{Making}
 use Rattle.making.specs.declared.Making.the-variants as M
 use Rattle.patch.specs.Answers.{appliedNumber}
 use Rattle.patch.specs.Applying.{AppliedTo}
-use Rattle.patch.specs.Statements.{ReadAsPatch, WhateverWindow, OneEncoding, NoneShared}
+use Rattle.patch.specs.Statements.{ReadAsPatch, WhateverWindow, JudgesAlike, OneEncoding, NoneShared}
 use Rattle.patch.specs.declared.Applied.{Applied}
 use Rattle.patch.specs.declared.Applied.the-variants as A
 use Rattle.demands.specs.Conditions.{conditions, NoneHolds}
@@ -127,6 +128,7 @@ pub record Demand3 : Type 0 where
   pub keeps-behind : KeepsBehind
   pub written-last : WrittenLast
   pub runs-described : RunsAsDescribed
+  pub run-at-each-start : RunAtEachStart
   pub runs-sorted : RunsKeepTheRules
   -- "Take any two stores done over the same window address and length, whatever their words, registers, flags and vector lengths.
   -- Their patches are identical byte strings exactly when both stores leave the same memory from every initial filling of that window."
@@ -139,7 +141,11 @@ pub record Demand3 : Type 0 where
   -- within document 01's sizes." Two sets with the same bytes at the same addresses are one.
   pub read-as-patch : ReadAsPatch
   pub whatever-window : WhateverWindow
+  pub judges-alike : JudgesAlike
   pub equal-lookups : EqualLookups
+  -- "The string's length is 4, plus 12 for each run, plus the payload bytes."; "The largest patch has 1,796 bytes" (document 01)
+  pub encoding-length : EncodingLength
+  pub largest-patch : LargestPatch
   -- "Each such set has one encoding, and no two sets share one."
   pub one-encoding : OneEncoding
   pub none-shared : NoneShared

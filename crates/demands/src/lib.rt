@@ -68,7 +68,9 @@ pub fn replay(
     word: u32,
     patch: &mut [u8],
 ) -> bool
-    ensures { λ r. ⌜ Replayed flags (machine vb (now (x .entry)) sp (now (z .entry)) (now (p .entry))) base (now (memory .entry)) (now (copy .entry)) word (now (patch .entry)) r (now (memory .exit)) (now (copy .exit)) (now (patch .exit)) ⌝ }
+    ensures { λ r.
+        ⌜ Replayed flags (machine vb (now (x .entry)) sp (now (z .entry)) (now (p .entry))) base (now (memory .entry))
+        (now (copy .entry)) word (now (patch .entry)) r (now (memory .exit)) (now (copy .exit)) (now (patch .exit)) ⌝ }
 {
     let length = memory.len() as u64;
     running::run(vb, flags, x, sp, z, p, base, memory, word);
@@ -101,7 +103,10 @@ pub fn same_patches(
     patch: &mut [u8],
     patch1: &mut [u8],
 ) -> bool
-    ensures { λ r. ⌜ Compared base length flags (machine vb (now (x .entry)) sp (now (z .entry)) (now (p .entry))) word flags1 (machine vb1 (now (x1 .entry)) sp1 (now (z1 .entry)) (now (p1 .entry))) word1 (now (patch .entry)) (now (patch1 .entry)) r (now (patch .exit)) (now (patch1 .exit)) ⌝ }
+    ensures { λ r.
+        ⌜ Compared base length flags (machine vb (now (x .entry)) sp (now (z .entry)) (now (p .entry))) word
+        flags1 (machine vb1 (now (x1 .entry)) sp1 (now (z1 .entry)) (now (p1 .entry))) word1
+        (now (patch .entry)) (now (patch1 .entry)) r (now (patch .exit)) (now (patch1 .exit)) ⌝ }
 {
     let made = making::make_patch(vb, flags, x, sp, z, p, base, length, word, patch);
     let made1 = making::make_patch(vb1, flags1, x1, sp1, z1, p1, base, length, word1, patch1);

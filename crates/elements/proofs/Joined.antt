@@ -1,12 +1,12 @@
 -- Elements at consecutive addresses write as one: what a strided store's active elements write is their bytes in a row. Assumes nothing.
 use mathlib.Core.Path.{_≡_, refl, sym, ap, ap₂, _∙_, subst}
-use mathlib.Core.Bool.{Bool, true, false, cond, _&&_}
+use mathlib.Core.Bool.{Bool, true, false, _&&_, and-false}
 use mathlib.Core.List.{List, [], _∷_, _++_, append-assoc, append-nil}
 use Prim.Native.Nat.{ℕ, zero, suc, _+_, _-_, _*_, _/_, _%_, _^_, _≤_, _<_}
-use native.Mathlib.Nat.{zero-mul, suc-mul, mul-le-mul, mul-le-mul-right}
+use native.Mathlib.Nat.{zero-mul, suc-mul, mul-pos, mul-le-mul-right}
 use native.Mathlib.Omega.{arith}
 use lib.Dec.{leb, ltb}
-use lib.ListN.{length, drop, take, length-append}
+use lib.ListN.{length, drop, length-append}
 use borrow.Author.Tests.{lt-ltb, le-ltb, lt-leb, le-leb}
 use Rattle.writes.specs.LittleEndian.{Bytes}
 use Rattle.writes.specs.Sets.{run, writesOf}
@@ -15,12 +15,13 @@ use Rattle.writes.proofs.LittleEndian.{bytes-take, bytes-drop, bytes-append}
 use Rattle.writes.proofs.Order.{two}
 use Rattle.writes.proofs.Net.{splice-stretch}
 use Rattle.writes.proofs.Overlay.{length-over}
-use Rattle.writes.proofs.Parts.{over-join, over-none}
+use Rattle.writes.proofs.Parts.{over-join}
 use Rattle.elements.specs.Machine.{register}
 use Rattle.elements.specs.Elements.{actives}
-use Rattle.elements.specs.Plans.{StridedSound, stridedActive, stridedAddress, stridedElement, stridedElements, bytesFrom, stridedBytes}
+use Rattle.elements.specs.Plans.{StridedSound, stridedActive, stridedAddress, stridedElement, stridedElements}
+use Rattle.elements.specs.Plans.{bytesFrom, stridedBytes}
 use Rattle.elements.specs.declared.StridedPlan.{StridedPlan}
-use Rattle.elements.proofs.Stretches.{actives-on, actives-off, active-in}
+use Rattle.elements.proofs.Stretches.{actives-on, actives-off, none-left, active-in}
 use Rattle.elements.proofs.Moving.{bytes-long, active-long}
 
 -- n elements from number e on
@@ -38,11 +39,6 @@ module _ (el : ℕ → Element) where
 
   module _ (on : ℕ → Bool) (low high : ℕ) (yes : (i : ℕ) → low ≤ i → i < high → on i ≡ true) (before : (i : ℕ) → i < low → on i ≡ false)
       (after : (i : ℕ) → high ≤ i → on i ≡ false) where
-    none-after : (n e : ℕ) → high ≤ e → actives on el n e ≡ []
-    unfolding actives
-    none-after zero e h = refl
-    none-after (suc n) e h = actives-off on el n e (after e h) ∙ none-after n (suc e) (omega arith)
-
     from-low : (n e : ℕ) → low ≤ e → high ≤ e + n → actives on el n e ≡ listed el (high - e) e
     unfolding actives listed
     from-low zero e l h = let w : 0 ≡ high - e = omega arith in ap (λ (k : ℕ). listed el k e) w
@@ -55,15 +51,19 @@ module _ (el : ℕ → Element) where
         ∙ ap (λ (k : ℕ). listed el k e) w)
         (λ a.
         let w : 0 ≡ high - e = omega arith in
-        none-after (suc n) e a ∙ ap (λ (k : ℕ). listed el k e) w)
+        none-left on el (suc n) e (λ j k. after j (omega arith)) ∙ ap (λ (k : ℕ). listed el k e) w)
 
     range-listed : (n e : ℕ) → e ≤ low → low ≤ high → high ≤ e + n → actives on el n e ≡ listed el (high - low) low
     unfolding actives
-    range-listed zero e l o h = let w : e ≡ low = omega arith in subst (λ (k : ℕ). actives on el 0 e ≡ listed el (high - k) k) w (from-low zero e (omega arith) h)
+    range-listed zero e l o h =
+        let w : e ≡ low = omega arith in
+        from-low zero e (omega arith) h ∙ ap (λ (k : ℕ). listed el (high - k) k) w
     range-listed (suc n) e l o h =
         two e low
         (λ a. actives-off on el n e (before e a) ∙ range-listed n (suc e) (omega arith) o (omega arith))
-        (λ a. let w : e ≡ low = omega arith in subst (λ (k : ℕ). actives on el (suc n) e ≡ listed el (high - k) k) w (from-low (suc n) e a h))
+        (λ a.
+        let w : e ≡ low = omega arith in
+        from-low (suc n) e a h ∙ ap (λ (k : ℕ). listed el (high - k) k) w)
 
   -- ---- elements of which each starts where the one before ends
 
@@ -94,15 +94,16 @@ module _ (el : ℕ → Element) where
   spliced-listed zero e a p g f b bp h = ap (λ (x : List ℕ). splice a x []) (sym (append-nil p))
   spliced-listed (suc n) e a p g f b bp h =
       let q = el e .bytes in
+      let r = bytesFrom el n (suc e) in
       let bq : Bytes q = b e (omega arith) (omega arith) in
       let lq : length (p ++ q) ≡ length p + length q = length-append p q in
-      let lr : length (q ++ bytesFrom el n (suc e)) ≡ length q + length (bytesFrom el n (suc e)) = length-append q (bytesFrom el n (suc e)) in
+      let lr : length (q ++ r) ≡ length q + length r = length-append q r in
       let here : el e .address ≡ a + length p = g (omega arith) in
       ap (λ (x : ℕ). spliceAll (splice x q (splice a p [])) (listed el n (suc e))) here
       ∙ ap (λ (S : _). spliceAll S (listed el n (suc e))) (splice-stretch a p q [] (omega arith) bp bq (bytes-append p q bp bq) tt)
       ∙ spliced-listed n (suc e) a (p ++ q) (λ k. f e (omega arith) (omega arith) ∙ omega arith) (λ i k l. f i (omega arith) (omega arith))
       (λ i k l. b i (omega arith) (omega arith)) (bytes-append p q bp bq) (omega arith)
-      ∙ ap (λ (x : List ℕ). splice a x []) (append-assoc p q (bytesFrom el n (suc e)))
+      ∙ ap (λ (x : List ℕ). splice a x []) (append-assoc p q r)
 
   -- the net effect is one run
   net-listed : (n e : ℕ) → Consecutive (suc n) e → ((i : ℕ) → e ≤ i → i < e + suc n → Bytes (el i .bytes))
@@ -110,8 +111,8 @@ module _ (el : ℕ → Element) where
       → netEffect (listed el (suc n) e) ≡ writesOf (run (el e .address) (bytesFrom el (suc n) e) ∷ [])
   unfolding listed bytesFrom spliceAll splice below from writesOf
   net-listed n e f b h =
-      spliced-listed n (suc e) (el e .address) (el e .bytes) (λ k. f e (omega arith) (omega arith)) (λ i k l. f i (omega arith) (omega arith))
-      (λ i k l. b i (omega arith) (omega arith)) (b e (omega arith) (omega arith))
+      spliced-listed n (suc e) (el e .address) (el e .bytes) (λ k. f e (omega arith) (omega arith))
+      (λ i k l. f i (omega arith) (omega arith)) (λ i k l. b i (omega arith) (omega arith)) (b e (omega arith) (omega arith))
       (omega (arith, length-append (el e .bytes) (bytesFrom el n (suc e))))
 
 -- ---- strided stores
@@ -129,6 +130,18 @@ module _ (s : StridedPlan) (vb : ℕ) (o : StridedSound s vb) (z : List ℕ) whe
   unfolding stridedAddress
   stepped i f = omega (arith, suc-mul i (s .step), o .packed)
 
+  -- the d-th address from the first active one on, where each follows on the one before
+  far : ((d : ℕ) → s .low + suc d < s .high → stridedAddress s (s .low + d) ≡ stridedAddress s (s .low) + d * s .size
+      → stridedAddress s (suc (s .low + d)) ≡ stridedAddress s (s .low + d) + s .size)
+      → (d : ℕ) → s .low + d < s .high → stridedAddress s (s .low + d) ≡ stridedAddress s (s .low) + d * s .size
+  far next zero k =
+      let w : s .low + 0 ≡ s .low = omega arith in
+      ap (stridedAddress s) w ∙ omega (arith, zero-mul (s .size))
+  far next (suc d) k =
+      let w : s .low + suc d ≡ suc (s .low + d) = omega arith in
+      let p = far next d (omega arith) in
+      ap (stridedAddress s) w ∙ next d k p ∙ omega (arith, p, suc-mul d (s .size))
+
   pub strided-listed : stridedElements s vb z ≡ listed el (s .high - s .low) (s .low)
   unfolding stridedElements stridedActive
   strided-listed =
@@ -136,10 +149,6 @@ module _ (s : StridedPlan) (vb : ℕ) (o : StridedSound s vb) (z : List ℕ) whe
       (λ i a. ap (λ (b : Bool). b && ltb i (s .high)) (lt-leb (s .low) i a))
       (λ i a. ap (λ (b : Bool). leb (s .low) i && b) (le-ltb i (s .high) a) ∙ and-false (leb (s .low) i))
       (s .nreg * s .per) 0 (omega arith) (o .order) (omega (arith, o .most))
-    where
-      and-false : (b : Bool) → b && false ≡ false
-      and-false true = refl
-      and-false false = refl
 
   pub strided-count : length (stridedElements s vb z) ≡ s .high - s .low
   strided-count = ap length strided-listed ∙ length-listed el (s .high - s .low) (s .low)
@@ -154,7 +163,8 @@ module _ (s : StridedPlan) (vb : ℕ) (o : StridedSound s vb) (z : List ℕ) whe
     element-bytes bz i =
         let r = s .first + i / s .per * s .stride in
         let at = i % s .per * s .step in
-        bytes-take (s .size) (drop at (register vb z r)) (bytes-drop at (register vb z r) (bytes-take vb (drop (r * vb) z) (bytes-drop (r * vb) z bz)))
+        bytes-take (s .size) (drop at (register vb z r))
+        (bytes-drop at (register vb z r) (bytes-take vb (drop (r * vb) z) (bytes-drop (r * vb) z bz)))
 
     pub strided-bytes : Bytes z → Bytes (stridedBytes s vb z)
     unfolding stridedBytes bytesFrom
@@ -166,22 +176,17 @@ module _ (s : StridedPlan) (vb : ℕ) (o : StridedSound s vb) (z : List ℕ) whe
 
     pub strided-some : s .low < s .high → 1 ≤ length (stridedBytes s vb z)
     strided-some h =
-        let a : 1 ≤ s .high - s .low = omega arith in
-        let b : 1 ≤ s .size = omega (arith, o .some) in
-        omega (arith, active-long s vb o z q, mul-le-mul a b)
+        let a : 0 < s .high - s .low = omega arith in
+        omega (arith, active-long s vb o z q, mul-pos a (o .some))
 
     -- all from one place on that doesn't pass the top
     module _ (h : s .low < s .high) (top : stridedAddress s (s .low) + (s .high - s .low) * s .size ≤ 2 ^ 64) where
       reached : (d : ℕ) → s .low + d < s .high → stridedAddress s (s .low + d) ≡ stridedAddress s (s .low) + d * s .size
-      reached zero k =
-          let w : s .low + 0 ≡ s .low = omega arith in
-          ap (stridedAddress s) w ∙ omega (arith, zero-mul (s .size))
-      reached (suc d) k =
-          let w : s .low + suc d ≡ suc (s .low + d) = omega arith in
+      reached =
+          far
+          (λ d k p.
           let l : suc (suc d) ≤ s .high - s .low = omega arith in
-          let f : stridedAddress s (s .low + d) + s .size < 2 ^ 64 =
-          omega (arith, reached d (omega arith), mul-le-mul-right (s .size) l, suc-mul d (s .size), suc-mul (suc d) (s .size), o .some) in
-          ap (stridedAddress s) w ∙ stepped (s .low + d) f ∙ omega (arith, reached d (omega arith), suc-mul d (s .size))
+          stepped (s .low + d) (omega (arith, mul-le-mul-right (s .size) l, suc-mul d (s .size), suc-mul (suc d) (s .size), o .some)))
 
       -- each of them lies where all do
       pub each-inside : (W L i : ℕ) → W ≤ stridedAddress s (s .low) → stridedAddress s (s .low) + (s .high - s .low) * s .size ≤ W + L
@@ -194,7 +199,8 @@ module _ (s : StridedPlan) (vb : ℕ) (o : StridedSound s vb) (z : List ℕ) whe
           ap (stridedAddress s) (sym w) ∙ reached d (subst (λ (n : ℕ). n < s .high) (sym w) e) in
           within d (stridedAddress s i) f (mul-le-mul-right (s .size) l)
         where
-          within : (d x : ℕ) → x ≡ stridedAddress s (s .low) + d * s .size → suc d * s .size ≤ (s .high - s .low) * s .size → (W ≤ x) × (x + s .size ≤ W + L)
+          within : (d x : ℕ) → x ≡ stridedAddress s (s .low) + d * s .size → suc d * s .size ≤ (s .high - s .low) * s .size
+              → (W ≤ x) × (x + s .size ≤ W + L)
           within d x f m = (omega arith, omega (arith, suc-mul d (s .size)))
 
     -- in a window
@@ -217,14 +223,6 @@ module _ (s : StridedPlan) (vb : ℕ) (o : StridedSound s vb) (z : List ℕ) whe
       consecutive i a b =
           step i a (omega arith) ∙ ap (λ (n : ℕ). stridedAddress s i + n) (sym (bytes-long s vb o z q i (omega arith)))
 
-      far : (d : ℕ) → s .low + d < s .high → stridedAddress s (s .low + d) ≡ stridedAddress s (s .low) + d * s .size
-      far zero k =
-          let w : s .low + 0 ≡ s .low = omega arith in
-          ap (stridedAddress s) w ∙ omega (arith, zero-mul (s .size))
-      far (suc d) k =
-          let w : s .low + suc d ≡ suc (s .low + d) = omega arith in
-          ap (stridedAddress s) w ∙ step (s .low + d) (omega arith) (omega arith) ∙ omega (arith, far d (omega arith), suc-mul d (s .size))
-
       -- all that they write lies in the window
       pub strided-place : (W ≤ stridedAddress s (s .low)) × (stridedAddress s (s .low) + (s .high - s .low) * s .size ≤ W + L)
       strided-place =
@@ -232,10 +230,12 @@ module _ (s : StridedPlan) (vb : ℕ) (o : StridedSound s vb) (z : List ℕ) whe
           let a : s .low + d < s .high = omega arith in
           let w : suc d ≡ s .high - s .low = omega arith in
           let e : suc d * s .size ≡ (s .high - s .low) * s .size = ap (λ (n : ℕ). n * s .size) w in
-          (inside (s .low) (omega arith) h .0, last d (far d a) (inside (s .low + d) (omega arith) a .1) e)
+          let p = far (λ i k q. step (s .low + i) (omega arith) (omega arith)) d a in
+          (inside (s .low) (omega arith) h .0, last d p (inside (s .low + d) (omega arith) a .1) e)
         where
-          last : (d : ℕ) → stridedAddress s (s .low + d) ≡ stridedAddress s (s .low) + d * s .size → stridedAddress s (s .low + d) + s .size ≤ W + L
-              → suc d * s .size ≡ (s .high - s .low) * s .size → stridedAddress s (s .low) + (s .high - s .low) * s .size ≤ W + L
+          last : (d : ℕ) → stridedAddress s (s .low + d) ≡ stridedAddress s (s .low) + d * s .size
+              → stridedAddress s (s .low + d) + s .size ≤ W + L → suc d * s .size ≡ (s .high - s .low) * s .size
+              → stridedAddress s (s .low) + (s .high - s .low) * s .size ≤ W + L
           last d p r e = omega (arith, suc-mul d (s .size))
 
       pub strided-written : (mem : List ℕ) → length mem ≡ L
@@ -254,7 +254,8 @@ module _ (s : StridedPlan) (vb : ℕ) (o : StridedSound s vb) (z : List ℕ) whe
               ap (written W mem) e
               ∙ written-listed el W mem n (s .low) f (strided-place .0) (omega (arith, strided-place .1))
 
-      pub strided-net : Bytes z → netEffect (stridedElements s vb z) ≡ writesOf (run (stridedAddress s (s .low)) (stridedBytes s vb z) ∷ [])
+      pub strided-net : Bytes z
+          → netEffect (stridedElements s vb z) ≡ writesOf (run (stridedAddress s (s .low)) (stridedBytes s vb z) ∷ [])
       unfolding stridedBytes stridedElement
       strided-net bz = go (s .high - s .low) (omega arith) (omega arith) strided-listed consecutive (active-long s vb o z q)
         where

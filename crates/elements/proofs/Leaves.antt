@@ -8,7 +8,6 @@ use native.Mathlib.Omega.{arith}
 use lib.Dec.{eqb, ltb}
 use lib.ListN.{getD, take, drop}
 use borrow.Author.Tests.{eq-eqb, ne-eqb, lt-ltb, le-ltb, ltb-true, ltb-false}
-use Rattle.writes.specs.LittleEndian.{leVal}
 use Rattle.elements.specs.Machine.{bitAt}
 use Rattle.elements.specs.Counter.{lowestSet, countIn}
 use Rattle.elements.specs.Stores.{signed32}
@@ -41,6 +40,17 @@ signed-wrapped x r h k e = go (ltb x (2 ^ 31)) refl
     go false q = let l : 2 ^ 31 ≤ x = ltb-false x (2 ^ 31) q in let s : r ≡ x + (2 ^ 64 - 2 ^ 32) = omega arith in s ∙ signed-high x l
 
 -- ---- counters
+
+-- what holds at each of the four places holds at a counter's lowest set bit
+pub at-lowest : (P : ℕ → Type 0) → P 0 → P 1 → P 2 → P 3 → (v : ℕ) → P (lowestSet v)
+unfolding lowestSet
+at-lowest P p q r s v = go (eqb (v % 2) 1) (eqb (v % 4) 2) (eqb (v % 8) 4)
+  where
+    go : (a b d : Bool) → P (cond a 0 (cond b 1 (cond d 2 3)))
+    go true b d = p
+    go false true d = q
+    go false false true = r
+    go false false false = s
 
 module _ (v : ℕ) where
   pub lowest-0 : v % 2 ≡ 1 → 0 ≡ lowestSet v

@@ -3,10 +3,11 @@ use mathlib.Core.Path.{_≡_, refl, sym, ap, ap₂, _∙_}
 use mathlib.Core.Bool.{Bool, true, false, cond}
 use mathlib.Core.List.{List, [], _∷_}
 use Prim.Native.Nat.{ℕ, zero, suc, _+_, _-_, _*_, _/_, _%_, _^_, _≤_, _<_}
-use native.Mathlib.Nat.{one-mul, mod-one, zero-mod, pow-zero, pow-suc}
+use native.Mathlib.Nat.{one-mul, mod-one, zero-mod, pow-suc, one-le-pow}
 use native.Mathlib.Numerals.{add-one}
 use native.Mathlib.Omega.{arith}
 use lib.Arith.{mod-mul}
+use lib.Dec.{lit<}
 use lib.ListN.{take, drop}
 use Rattle.encoding.specs.Classes.{Class}
 use Rattle.encoding.specs.Encoding.{classFor}
@@ -15,54 +16,45 @@ use Rattle.encoding.specs.declared.Extension.the-variants.{None, Uxtw, Sxtw}
 use Rattle.encoding.specs.declared.ScatterFields.{ScatterFields}
 use Rattle.encoding.specs.declared.StridedFields.{StridedFields}
 use Rattle.encoding.specs.declared.QuadwordFields.{QuadwordFields}
+use Rattle.encoding.specs.declared.Store.{Store}
 use Rattle.encoding.specs.declared.Store.the-variants.{Scatter, Strided, Quadword}
 use Rattle.writes.specs.LittleEndian.{Bytes, leVal}
 use Rattle.writes.specs.Elements.{Element}
 use Rattle.writes.proofs.LittleEndian.{bytes-take, bytes-drop}
 use Rattle.elements.specs.Machine.{Machine, baseOf, indexOf, vector, predicate}
-use Rattle.elements.specs.Counter.{maskBit}
+use Rattle.elements.specs.Counter.{counterOf, maskBit}
 use Rattle.elements.specs.Stores.{stepOf, sizeOf, perRegister, countOf, signed32, offsetOf, startOf}
 use Rattle.elements.specs.Elements.{activeAt, elementAt, actives, elements}
-use Rattle.elements.specs.Plans.{offsetFrom, vectorAddress, vectorActive, vectorElement, vectorElements, scatterPlan, quadwordPlan, stridedAddress, stridedActive, stridedElement, stridedElements, stridedPlan}
+use Rattle.elements.specs.Plans.{offsetFrom, vectorAddress, vectorActive, vectorElement, vectorElements, scatterPlan, quadwordPlan}
+use Rattle.elements.specs.Plans.{stridedAddress, stridedActive, stridedElement, stridedElements, stridedPlan}
+use Rattle.elements.specs.declared.VectorPlan.{VectorPlan}
 use Rattle.elements.proofs.Shapes.{ScatterIn, QuadwordIn, StridedIn}
 use Rattle.elements.proofs.Ranges.{range-is}
+use Rattle.elements.proofs.Stretches.{actives-on, actives-off}
 
 -- ---- one more element
 
 module _ (on : ℕ → Bool) (el : ℕ → Element) where
-  more : (n k e : ℕ) → n ≡ suc k → actives on el n e ≡ cond (on e) (el e ∷ actives on el k (suc e)) (actives on el k (suc e))
-  unfolding actives
-  more n k e q = ap (λ (j : ℕ). actives on el j e) q
-
   -- of the elements below n from e on: e itself, where it is on, and those after it
   pub active-more : (n e : ℕ) → e < n → on e ≡ true → actives on el (n - e) e ≡ el e ∷ actives on el (n - (e + 1)) (e + 1)
   active-more n e h t =
       let q : n - e ≡ suc (n - (e + 1)) = omega arith in
-      more (n - e) (n - (e + 1)) e q
-      ∙ ap (λ (b : Bool). cond b (el e ∷ actives on el (n - (e + 1)) (suc e)) (actives on el (n - (e + 1)) (suc e))) t
+      ap (λ (j : ℕ). actives on el j e) q
+      ∙ actives-on on el (n - (e + 1)) e t
       ∙ ap (λ (j : ℕ). el e ∷ actives on el (n - (e + 1)) j) (sym (add-one e))
 
   pub inactive-more : (n e : ℕ) → e < n → on e ≡ false → actives on el (n - e) e ≡ actives on el (n - (e + 1)) (e + 1)
   inactive-more n e h t =
       let q : n - e ≡ suc (n - (e + 1)) = omega arith in
-      more (n - e) (n - (e + 1)) e q
-      ∙ ap (λ (b : Bool). cond b (el e ∷ actives on el (n - (e + 1)) (suc e)) (actives on el (n - (e + 1)) (suc e))) t
+      ap (λ (j : ℕ). actives on el j e) q
+      ∙ actives-off on el (n - (e + 1)) e t
       ∙ ap (actives on el (n - (e + 1))) (sym (add-one e))
 
   pub active-none : (n e : ℕ) → n ≤ e → actives on el (n - e) e ≡ []
   unfolding actives
   active-none n e h = let q : n - e ≡ 0 = omega arith in ap (λ (j : ℕ). actives on el j e) q
 
--- two lists whose elements agree
-pub actives-same : (on on′ : ℕ → Bool) (el el′ : ℕ → Element) → ((e : ℕ) → on e ≡ on′ e) → ((e : ℕ) → el e ≡ el′ e) → (n e : ℕ)
-    → actives on el n e ≡ actives on′ el′ n e
-unfolding actives
-actives-same on on′ el el′ f g zero e = refl
-actives-same on on′ el el′ f g (suc n) e =
-    let t = actives-same on on′ el el′ f g n (suc e) in
-    λ i. cond (f e i) (g e i ∷ t i) (t i)
-
--- the same, where activity agrees below k
+-- two lists whose elements agree, and of those below k which are on
 actives-below : (on on′ : ℕ → Bool) (el el′ : ℕ → Element) (k : ℕ) → ((e : ℕ) → e < k → on e ≡ on′ e) → ((e : ℕ) → el e ≡ el′ e)
     → (n e : ℕ) → e + n ≤ k → actives on el n e ≡ actives on′ el′ n e
 unfolding actives
@@ -83,7 +75,8 @@ low-bytes (suc k) (suc n) [] h b = zero-mod (256 ^ suc k)
 low-bytes (suc k) (suc n) (x ∷ l) h b =
     let hx : x < 256 = b .0 in
     let v = leVal (take n l) in
-    let m : (x + 256 * v) % (256 ^ k * 256) ≡ ((x + 256 * v) / 256 % 256 ^ k) * 256 + (x + 256 * v) % 256 = mod-mul (x + 256 * v) (power k) (omega arith) in
+    let m : (x + 256 * v) % (256 ^ k * 256) ≡ ((x + 256 * v) / 256 % 256 ^ k) * 256 + (x + 256 * v) % 256 =
+    mod-mul (x + 256 * v) (one-le-pow k 256 (lit< tt)) (omega arith) in
     let q : (x + 256 * v) / 256 ≡ v = omega arith in
     let r : (x + 256 * v) % 256 ≡ x = omega arith in
     let ih : v % 256 ^ k ≡ leVal (take k l) = low-bytes k n l (omega arith) (b .1) in
@@ -92,10 +85,6 @@ low-bytes (suc k) (suc n) (x ∷ l) h b =
     ∙ ap₂ (λ (y z : ℕ). (y % 256 ^ k) * 256 + z) q r
     ∙ ap (λ (y : ℕ). y * 256 + x) ih
     ∙ omega arith
-  where
-    power : (j : ℕ) → 0 < 256 ^ j
-    power zero = omega (arith, pow-zero 256)
-    power (suc j) = omega (arith, pow-suc 256 j, power j)
 
 offset-is : (x : Extension) (n at : ℕ) (reg : List ℕ) → (x ≡ None → n ≡ 8) → 4 ≤ n → Bytes reg
     → offsetOf x (leVal (take n (drop at reg))) ≡ offsetFrom x reg at
@@ -105,12 +94,22 @@ offset-is Sxtw n at reg f h b = ap signed32 (low-bytes 4 n (drop at reg) h (byte
 
 -- ---- a store's elements are its plan's
 
-element-same : (e a a′ : ℕ) (p : List ℕ) → a ≡ a′ → _≡_ {A = Element} (record { number = e; address = a; bytes = p }) (record { number = e; address = a′; bytes = p })
+element-same : (e a a′ : ℕ) (p : List ℕ) → a ≡ a′
+    → _≡_ {A = Element} (record { number = e; address = a; bytes = p }) (record { number = e; address = a′; bytes = p })
 element-same e a a′ p q = λ i. record { number = e; address = q i; bytes = p }
 
 -- a store over one register has its elements
 one-register : (m : Machine) (c : Class) → c .nreg ≡ 1 → c .nreg * perRegister m c ≡ perRegister m c
 one-register m c q = ap (λ (k : ℕ). k * perRegister m c) q ∙ one-mul (perRegister m c)
+
+vector-listed : (m : Machine) (s : Store) (v : VectorPlan) (offsets governing stored : List ℕ) → countOf m s ≡ v .count
+    → ((e : ℕ) → activeAt m s e ≡ vectorActive v governing e) → ((e : ℕ) → elementAt m s e ≡ vectorElement v offsets stored e)
+    → elements m s ≡ vectorElements v offsets governing stored
+unfolding elements vectorElements
+vector-listed m s v offsets governing stored q f g =
+    ap (λ (n : ℕ). actives (activeAt m s) (elementAt m s) n 0) q
+    ∙ actives-below (activeAt m s) (vectorActive v governing) (elementAt m s) (vectorElement v offsets stored) (v .count) (λ e h. f e) g
+    (v .count) 0 (omega arith)
 
 module _ (m : Machine) (f : ScatterFields) (s : ScatterIn f (classFor (Scatter f))) where
   pub scatter-count : countOf m (Scatter f) ≡ scatterPlan m (classFor (Scatter f)) f .count
@@ -128,22 +127,21 @@ module _ (m : Machine) (b : Bytes (m .z)) (f : ScatterFields) (s : ScatterIn f (
       let c = classFor (Scatter f) in
       element-same e _ _ (take (sizeOf c) (drop (e * stepOf c) (vector m (f .zt))))
       (ap (λ (o : ℕ). (baseOf m (f .rn) + o * 2 ^ c .scale) % 2 ^ 64)
-      (offset-is (f .extension) (stepOf c) (e * stepOf c) (vector m (f .zm)) (s .none) (s .four) (bytes-take (m .vb) (drop (f .zm * m .vb) (m .z)) (bytes-drop (f .zm * m .vb) (m .z) b))))
+      (offset-is (f .extension) (stepOf c) (e * stepOf c) (vector m (f .zm)) (s .none) (s .four)
+      (bytes-take (m .vb) (drop (f .zm * m .vb) (m .z)) (bytes-drop (f .zm * m .vb) (m .z) b))))
 
   pub scatter-elements : elements m (Scatter f)
       ≡ vectorElements (scatterPlan m (classFor (Scatter f)) f) (vector m (f .zm)) (predicate m (f .pg)) (vector m (f .zt))
-  unfolding elements vectorElements
   scatter-elements =
-      let v = scatterPlan m (classFor (Scatter f)) f in
-      ap (λ (n : ℕ). actives (activeAt m (Scatter f)) (elementAt m (Scatter f)) n 0) (scatter-count m f s)
-      ∙ actives-same (activeAt m (Scatter f)) (vectorActive v (predicate m (f .pg))) (elementAt m (Scatter f)) (vectorElement v (vector m (f .zm)) (vector m (f .zt)))
-      (scatter-active m f s) scatter-element (v .count) 0
+      vector-listed m (Scatter f) (scatterPlan m (classFor (Scatter f)) f) (vector m (f .zm)) (predicate m (f .pg)) (vector m (f .zt))
+      (scatter-count m f s) (scatter-active m f s) scatter-element
 
 module _ (m : Machine) (f : QuadwordFields) (s : QuadwordIn f (classFor (Quadword f))) where
   pub quadword-count : countOf m (Quadword f) ≡ quadwordPlan m (classFor (Quadword f)) f .count
   quadword-count = one-register m (classFor (Quadword f)) (s .nreg)
 
-  pub quadword-active : (e : ℕ) → activeAt m (Quadword f) e ≡ vectorActive (quadwordPlan m (classFor (Quadword f)) f) (predicate m (f .pg)) e
+  pub quadword-active : (e : ℕ)
+      → activeAt m (Quadword f) e ≡ vectorActive (quadwordPlan m (classFor (Quadword f)) f) (predicate m (f .pg)) e
   unfolding activeAt vectorActive
   quadword-active e = refl
 
@@ -163,18 +161,16 @@ module _ (m : Machine) (f : QuadwordFields) (s : QuadwordIn f (classFor (Quadwor
 
   pub quadword-elements : elements m (Quadword f)
       ≡ vectorElements (quadwordPlan m (classFor (Quadword f)) f) (vector m (f .zn)) (predicate m (f .pg)) (vector m (f .zt))
-  unfolding elements vectorElements
   quadword-elements =
-      let v = quadwordPlan m (classFor (Quadword f)) f in
-      ap (λ (n : ℕ). actives (activeAt m (Quadword f)) (elementAt m (Quadword f)) n 0) quadword-count
-      ∙ actives-same (activeAt m (Quadword f)) (vectorActive v (predicate m (f .pg))) (elementAt m (Quadword f)) (vectorElement v (vector m (f .zn)) (vector m (f .zt)))
-      quadword-active quadword-element (v .count) 0
+      vector-listed m (Quadword f) (quadwordPlan m (classFor (Quadword f)) f) (vector m (f .zn)) (predicate m (f .pg)) (vector m (f .zt))
+      quadword-count quadword-active quadword-element
 
 module _ (m : Machine) (f : StridedFields) (s : StridedIn f (classFor (Strided f))) where
-  pub strided-active : (e : ℕ) → e < countOf m (Strided f) → activeAt m (Strided f) e ≡ stridedActive (stridedPlan m (classFor (Strided f)) f) e
+  pub strided-active : (e : ℕ) → e < countOf m (Strided f)
+      → activeAt m (Strided f) e ≡ stridedActive (stridedPlan m (classFor (Strided f)) f) e
   unfolding activeAt stridedActive
   strided-active e h =
-      let v = leVal (take 2 (predicate m (8 + f .pc))) in
+      let v = counterOf m (f .pc) in
       ap (λ (n : ℕ). maskBit v (e * n)) (s .step) ∙ sym (range-is v (countOf m (Strided f)) e h)
 
   wrapped : (a d : ℕ) → (a + d) % 2 ^ 64 ≡ (a % 2 ^ 64 + d) % 2 ^ 64

@@ -1,8 +1,9 @@
 -- The bytes of a strided store's active elements, by register. Assumes nothing.
-use mathlib.Core.Path.{_≡_, refl, sym, ap, ap₂, _∙_}
-use mathlib.Core.List.{List, [], _++_, append-assoc}
+use mathlib.Core.Path.{_≡_, sym, ap, ap₂, _∙_}
+use mathlib.Core.List.{List, _++_, append-assoc}
 use Prim.Native.Nat.{ℕ, zero, suc, _+_, _-_, _*_, _/_, _%_, _≤_, _<_}
-use native.Mathlib.Nat.{zero-mul, add-mul, suc-mul, mul-le-mul, mul-le-mul-left, mul-le-mul-right, div-add-mod', div-lt-iff-lt-mul, le-div-iff-mul-le}
+use native.Mathlib.Nat.{zero-mul, add-mul, suc-mul, mul-comm, mul-le-mul, mul-le-mul-right, le-mul-of-pos-right}
+use native.Mathlib.Nat.{div-add-mod', div-lt-iff-lt-mul, le-div-iff-mul-le}
 use native.Mathlib.Omega.{arith}
 use lib.ListN.{length, take, drop, length-append, length-take, length-drop}
 use lib.Seq.{take-add, drop-drop}
@@ -49,22 +50,19 @@ module _ (el : ℕ → Element) where
 
 module _ (s : StridedPlan) (vb : ℕ) (o : StridedSound s vb) where
   per-small : s .per ≤ 256
-  per-small = omega (arith, times (s .per) (s .step) (omega (arith, o .wide)), o .whole, o .high)
-    where
-      times : (a b : ℕ) → 1 ≤ b → a ≤ a * b
-      times a b h = omega (arith, mul-le-mul-left a h)
+  per-small =
+      let w : 0 < s .step = omega (arith, o .wide) in
+      omega (arith, le-mul-of-pos-right (s .per) w, o .whole, o .high)
 
   pub high-small : s .high ≤ 1024
   high-small = omega (arith, o .most, mul-le-mul (o .nreg) per-small)
 
   pub all-small : (s .high - s .low) * s .size ≤ 1024 * 256
   all-small =
-      let k : s .size ≤ 256 = omega (arith, times (s .per) (s .step) (o .per), o .whole, o .high, o .size) in
+      let k : s .size ≤ 256 =
+      omega (arith, le-mul-of-pos-right (s .step) (o .per), mul-comm (s .per) (s .step), o .whole, o .high, o .size) in
       let n : s .high - s .low ≤ 1024 = omega (arith, high-small) in
       mul-le-mul n k
-    where
-      times : (a b : ℕ) → 0 < a → b ≤ a * b
-      times a b h = omega (arith, mul-le-mul-right b h)
 
   module _ (r : ℕ) (h : r < s .nreg) where
     pub row-small : (r + 1) * s .per ≤ 1024
@@ -76,11 +74,8 @@ module _ (s : StridedPlan) (vb : ℕ) (o : StridedSound s vb) where
         let l : r ≤ s .nreg - 1 = omega arith in
         omega (arith, mul-le-mul-right (s .stride) l, o .last)
 
-    pub row-fits : (n : ℕ) → n ≡ 32 * vb → (s .first + r * s .stride) * vb + vb ≤ n
-    row-fits n q = register-in vb (s .first + r * s .stride) 32 n row-below q
-
     pub row-long : (z : List ℕ) → length z ≡ 32 * vb → length (register vb z (s .first + r * s .stride)) ≡ vb
-    row-long z q = register-long vb (s .first + r * s .stride) z (row-fits (length z) q)
+    row-long z q = register-long vb (s .first + r * s .stride) z (register-in vb (s .first + r * s .stride) 32 (length z) row-below q)
 
   -- an element of register r
   module _ (r e : ℕ) (a : r * s .per ≤ e) (b : e < r * s .per + s .per) where
@@ -93,7 +88,9 @@ module _ (s : StridedPlan) (vb : ℕ) (o : StridedSound s vb) where
     in-place : e % s .per ≡ e - r * s .per
     in-place = omega (arith, div-add-mod' e (s .per), ap (λ (n : ℕ). n * s .per) in-row)
 
-    its-bytes : (z : List ℕ) → stridedElement s vb z e .bytes ≡ take (s .size) (drop ((e - r * s .per) * s .size) (register vb z (s .first + r * s .stride)))
+    its-bytes : (z : List ℕ)
+        → stridedElement s vb z e .bytes
+        ≡ take (s .size) (drop ((e - r * s .per) * s .size) (register vb z (s .first + r * s .stride)))
     unfolding stridedElement
     its-bytes z =
         ap (λ (n : ℕ). take (s .size) (drop (e % s .per * n) (register vb z (s .first + e / s .per * s .stride)))) (o .packed)
@@ -114,7 +111,9 @@ module _ (s : StridedPlan) (vb : ℕ) (o : StridedSound s vb) where
         let w : (suc e - r * s .per) * k ≡ y + k = ap (λ (x : ℕ). x * k) i ∙ suc-mul (e - r * s .per) k in
         let v : k + n * k ≡ suc n * k = omega (arith, suc-mul n k) in
         ap₂ _++_ (its-bytes r e a (omega arith) z)
-        (row-bytes n (suc e) (omega arith) (omega arith) ∙ ap (λ (x : ℕ). take (n * k) (drop x reg)) w ∙ ap (take (n * k)) (sym (drop-drop k y reg)))
+        (row-bytes n (suc e) (omega arith) (omega arith)
+        ∙ ap (λ (x : ℕ). take (n * k) (drop x reg)) w
+        ∙ ap (take (n * k)) (sym (drop-drop k y reg)))
         ∙ sym (take-add k (n * k) (drop y reg)) ∙ ap (λ (x : ℕ). take x (drop y reg)) v
 
   -- ---- the part of one register
@@ -142,7 +141,8 @@ module _ (s : StridedPlan) (vb : ℕ) (o : StridedSound s vb) where
         ≡ take ((to - e) * s .size) (drop ((e - r * s .per) * s .step) (register vb z (s .first + r * s .stride)))
     part-bytes z =
         row-bytes z r (to - e) e (p .from) (omega (arith, p .some, p .until))
-        ∙ ap (λ (n : ℕ). take ((to - e) * s .size) (drop ((e - r * s .per) * n) (register vb z (s .first + r * s .stride)))) (sym (o .packed))
+        ∙ ap (λ (n : ℕ). take ((to - e) * s .size) (drop ((e - r * s .per) * n) (register vb z (s .first + r * s .stride))))
+        (sym (o .packed))
 
     pub part-long : (z : List ℕ) → length z ≡ 32 * vb → length (bytesFrom (stridedElement s vb z) (to - e) e) ≡ (to - e) * s .size
     part-long z q =
@@ -213,6 +213,8 @@ module _ (s : StridedPlan) (vb : ℕ) (o : StridedSound s vb) (z : List ℕ) (q 
   unfolding stridedBytes
   active-long = rest-long (s .low) (o .order)
 
+-- `copy_active`: before its loop, after a turn that copies nothing or a part, and behind the loop
+module _ {s : StridedPlan} {vb : ℕ} (o : StridedSound s vb) (z : List ℕ) (q : length z ≡ 32 * vb) where
   pub copied-first : (out : List ℕ) → length out ≡ (s .high - s .low) * s .size → Copied s vb z out 0 0 (s .low) 0
   unfolding stridedBytes
   copied-first out l =
@@ -226,10 +228,12 @@ module _ (s : StridedPlan) (vb : ℕ) (o : StridedSound s vb) (z : List ℕ) (q 
         counted = omega arith;
         weighed = sym none;
         long = l;
-        same = ap (λ (n : ℕ). over out n (stridedBytes s vb z)) none ∙ over-all out (stridedBytes s vb z) (active-long ∙ sym l);
+        same =
+            ap (λ (n : ℕ). over out n (stridedBytes s vb z)) none
+            ∙ over-all out (stridedBytes s vb z) (active-long s vb o z q ∙ sym l);
       }
 
-  module _ (out : List ℕ) (elements bytes e r to : ℕ) (h : r < s .nreg) (c : Copied s vb z out elements bytes e r)
+  module _ {out : List ℕ} {elements bytes e r to : ℕ} (h : r < s .nreg) (c : Copied s vb z out elements bytes e r)
       (t : to ≡ s .high - (s .high - (r + 1) * s .per)) where
     pub copied-off : to ≤ e → Copied s vb z out elements bytes e (r + 1)
     copied-off l =
@@ -256,9 +260,9 @@ module _ (s : StridedPlan) (vb : ℕ) (o : StridedSound s vb) (z : List ℕ) (q 
             high = omega arith;
           }
 
-      pub copied-on : (out′ : List ℕ) (k b : ℕ) → k ≡ elements + (to - e) → b ≡ bytes + (to - e) * s .size
-          → out′ ≡ over out ((e - s .low) * s .size) (bytesFrom el (to - e) e) → Copied s vb z out′ k b to (r + 1)
-      copied-on out′ k b kq bq oq =
+      pub copied-on : {out′ : List ℕ} {k b : ℕ} → k ≡ elements + (to - e) → b ≡ bytes + (to - e) * s .size
+          → out′ ≡ over out ((e - s .low) * s .size) (bytesFrom (stridedElement s vb z) (to - e) e) → Copied s vb z out′ k b to (r + 1)
+      copied-on kq bq oq =
           let p = copied-part in
           let n = part-long s vb o r e to p z q in
           let fit = part-out s vb o r e to p in
@@ -267,11 +271,12 @@ module _ (s : StridedPlan) (vb : ℕ) (o : StridedSound s vb) (z : List ℕ) (q 
           let w : (e - s .low) + (to - e) ≡ to - s .low = gap (s .low) e to cl (omega arith) in
           let m : (e - s .low) * s .size + (to - e) * s .size ≡ (to - s .low) * s .size =
           sym (add-mul (e - s .low) (to - e) (s .size)) ∙ ap (λ (x : ℕ). x * s .size) w in
+          let el = stridedElement s vb z in
           let d = bytes-split el e to (s .high) (omega arith) ph in
           let A = bytesFrom el (to - e) e in
           let B = bytesFrom el (s .high - to) to in
           let room = room-for (s .low) e (s .high) (s .size) (length A) (length B) (length out) cl (c .high)
-          (sym (length-append A B) ∙ ap length (sym d) ∙ rest-long e (c .high)) (c .long) in
+          (sym (length-append A B) ∙ ap length (sym d) ∙ rest-long s vb o z q e (c .high)) (c .long) in
           record {
             rows = omega arith;
             low = omega arith;
@@ -279,7 +284,7 @@ module _ (s : StridedPlan) (vb : ℕ) (o : StridedSound s vb) (z : List ℕ) (q 
             ahead = λ j. omega arith;
             counted = omega (arith, c .counted);
             weighed = omega (arith, c .weighed);
-            long = ap length oq ∙ length-over out ((e - s .low) * s .size) A (omega arith) ∙ c .long;
+            long = ap length oq ∙ length-over _ ((e - s .low) * s .size) A (omega arith) ∙ c .long;
             same =
                 ap₂ (λ (x : List ℕ) (y : ℕ). over x y B) oq (sym m ∙ ap (λ (x : ℕ). (e - s .low) * s .size + x) (sym n))
                 ∙ over-join out ((e - s .low) * s .size) A B room
@@ -287,10 +292,10 @@ module _ (s : StridedPlan) (vb : ℕ) (o : StridedSound s vb) (z : List ℕ) (q 
                 ∙ c .same;
           }
 
-  pub copied-done : (out : List ℕ) (elements bytes e r : ℕ) → s .nreg ≤ r → Copied s vb z out elements bytes e r
+  pub copied-done : {out : List ℕ} {elements bytes e r : ℕ} → s .nreg ≤ r → Copied s vb z out elements bytes e r
       → (elements ≡ s .high - s .low) × (bytes ≡ (s .high - s .low) * s .size) × (out ≡ stridedBytes s vb z)
   unfolding bytesFrom
-  copied-done out elements bytes e r h c =
+  copied-done {out} {e = e} h c =
       let w : e ≡ s .high =
       two e (s .high)
       (λ l. absurd (omega (arith, mul-le-mul-right (s .per) h, c .ahead l, o .most)))
@@ -298,5 +303,7 @@ module _ (s : StridedPlan) (vb : ℕ) (o : StridedSound s vb) (z : List ℕ) (q 
       let v : s .high - e ≡ 0 = omega arith in (
         c .counted ∙ ap (λ (x : ℕ). x - s .low) w,
         c .weighed ∙ ap (λ (x : ℕ). (x - s .low) * s .size) w,
-        sym (ap (λ (n : ℕ). over out ((e - s .low) * s .size) (bytesFrom el n e)) v ∙ over-none out ((e - s .low) * s .size)) ∙ c .same,
+        sym (over-none out ((e - s .low) * s .size))
+            ∙ ap (λ (n : ℕ). over out ((e - s .low) * s .size) (bytesFrom (stridedElement s vb z) n e)) (sym v)
+            ∙ c .same,
       )

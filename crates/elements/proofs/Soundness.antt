@@ -1,37 +1,35 @@
 -- The plan of a store that isn't refused is sound on a machine with registers of vb bytes. Assumes nothing.
-use mathlib.Core.Path.{_≡_, refl, sym, ap, _∙_, subst}
+use mathlib.Core.Path.{_≡_, sym, ap, _∙_, subst}
 use Prim.Native.Nat.{ℕ, zero, suc, _+_, _-_, _*_, _/_, _%_, _≤_, _<_}
-use native.Mathlib.Nat.{div-mul-le-self, mul-div-mul-right, le-div-iff-mul-le, suc-mul}
+use native.Mathlib.Nat.{div-mul-le-self, le-div-iff-mul-le, suc-mul}
 use native.Mathlib.Omega.{arith}
-use lib.ListN.{take}
 use Rattle.encoding.specs.Classes.{Class}
 use Rattle.encoding.specs.Encoding.{classFor}
 use Rattle.encoding.specs.declared.ScatterFields.{ScatterFields}
 use Rattle.encoding.specs.declared.StridedFields.{StridedFields}
 use Rattle.encoding.specs.declared.QuadwordFields.{QuadwordFields}
 use Rattle.encoding.specs.declared.Store.the-variants.{Scatter, Strided, Quadword}
-use Rattle.writes.specs.LittleEndian.{leVal}
-use Rattle.elements.specs.Machine.{Machine, predicate}
-use Rattle.elements.specs.Stores.{stepOf, sizeOf, perRegister, strideOf}
+use Rattle.elements.specs.Machine.{Machine}
+use Rattle.elements.specs.Counter.{counterOf}
+use Rattle.elements.specs.Stores.{stepOf, perRegister, strideOf}
 use Rattle.elements.specs.Plans.{VectorSound, StridedSound, scatterPlan, quadwordPlan, stridedPlan}
+use Rattle.elements.proofs.Planning.{per-is}
 use Rattle.elements.proofs.Ranges.{range-order, range-most}
 use Rattle.elements.proofs.Shapes.{ScatterIn, QuadwordIn, StridedIn}
 
 module _ (m : Machine) (c : Class) (e : c .esize / 8 * 8 ≡ c .esize) where
-  per-step : perRegister m c ≡ m .vb / stepOf c
-  per-step = ap (λ (n : ℕ). m .vb * 8 / n) (sym e) ∙ mul-div-mul-right (m .vb) (stepOf c) (omega arith)
-
   per-whole : perRegister m c * stepOf c ≤ m .vb
-  per-whole = subst (λ (n : ℕ). n * stepOf c ≤ m .vb) (sym per-step) (div-mul-le-self (m .vb) (stepOf c))
+  per-whole = subst (λ (n : ℕ). n * stepOf c ≤ m .vb) (per-is (m .vb) c e) (div-mul-le-self (m .vb) (stepOf c))
 
   per-some : 16 ≤ m .vb → stepOf c ≤ 16 → 1 ≤ stepOf c → 0 < perRegister m c
-  per-some l h k = subst (λ (n : ℕ). 0 < n) (sym per-step) (some (m .vb) (stepOf c) k (omega arith))
+  per-some l h k = subst (λ (n : ℕ). 0 < n) (per-is (m .vb) c e) (some (m .vb) (stepOf c) k (omega arith))
     where
       some : (a b : ℕ) → 1 ≤ b → b ≤ a → 0 < a / b
       some a b h k = le-div-iff-mul-le h .1 (omega arith)
 
 module _ (m : Machine) (low : 16 ≤ m .vb) (high : m .vb ≤ 256) (sixteen : m .vb % 16 ≡ 0) where
-  pub scatter-sound : (f : ScatterFields) → ScatterIn f (classFor (Scatter f)) → VectorSound (scatterPlan m (classFor (Scatter f)) f) (m .vb)
+  pub scatter-sound : (f : ScatterFields) → ScatterIn f (classFor (Scatter f))
+      → VectorSound (scatterPlan m (classFor (Scatter f)) f) (m .vb)
   scatter-sound f s =
       record {
         scale = omega (arith, s .small .scale);
@@ -47,7 +45,8 @@ module _ (m : Machine) (low : 16 ≤ m .vb) (high : m .vb ≤ 256) (sixteen : m 
         stored = s .zt;
       }
 
-  pub quadword-sound : (f : QuadwordFields) → QuadwordIn f (classFor (Quadword f)) → VectorSound (quadwordPlan m (classFor (Quadword f)) f) (m .vb)
+  pub quadword-sound : (f : QuadwordFields) → QuadwordIn f (classFor (Quadword f))
+      → VectorSound (quadwordPlan m (classFor (Quadword f)) f) (m .vb)
   quadword-sound f s =
       record {
         scale = omega arith;
@@ -63,12 +62,13 @@ module _ (m : Machine) (low : 16 ≤ m .vb) (high : m .vb ≤ 256) (sixteen : m 
         stored = s .zt;
       }
 
-  pub strided-sound : (f : StridedFields) → StridedIn f (classFor (Strided f)) → StridedSound (stridedPlan m (classFor (Strided f)) f) (m .vb)
+  pub strided-sound : (f : StridedFields) → StridedIn f (classFor (Strided f))
+      → StridedSound (stridedPlan m (classFor (Strided f)) f) (m .vb)
   strided-sound f s =
       let c = classFor (Strided f) in
       record {
-        order = range-order (leVal (take 2 (predicate m (8 + f .pc)))) (c .nreg * perRegister m c);
-        most = range-most (leVal (take 2 (predicate m (8 + f .pc)))) (c .nreg * perRegister m c);
+        order = range-order (counterOf m (f .pc)) (c .nreg * perRegister m c);
+        most = range-most (counterOf m (f .pc)) (c .nreg * perRegister m c);
         packed = s .step ∙ sym (s .size);
         wide = omega (arith, s .step);
         some = s .small .size .0;

@@ -3,23 +3,20 @@
 use mathlib.Core.Path.{_≡_, refl, sym, ap, _∙_, subst}
 use Prim.Native.Nat.{ℕ, zero, suc, _+_, _*_, _/_, _%_, _^_, _≤_, _<_}
 use mathlib.Core.List.{[], _∷_}
-use mathlib.Core.Bool.{Bool, true, false, not, cond, _&&_}
+use mathlib.Core.Bool.{Bool, true, false, true≢false, not, cond, _&&_}
 use mathlib.Core.Option.{Option, none, some}
 use native.Mathlib.Nat.{suc-mul}
 use native.Mathlib.Omega.{arith}
 use borrow.Author.Tests.{eq-eqb, ltb-false, leb-true, leb-false, le-ltb}
-use lib.Dec.{T, eqb, ltb, leb, eqb→eq}
-use lib.Ieee.Fits.{and-l, and-r}
+use lib.Dec.{eqb, ltb, leb}
 use lib.ListN.{length}
-use Rattle.encoding.specs.Classes.{Feature, SVE, SME2, SVE2p1, Class, classes, classAt, noClass}
-use Rattle.encoding.proofs.Tests.{every, every-at}
 use Rattle.writes.specs.LittleEndian.{Bytes}
 use Rattle.writes.specs.Elements.{Element, InWindow}
 use Rattle.writes.proofs.Order.{three}
 use Rattle.writes.proofs.Counting.{starts, OfSize}
-use Rattle.elements.specs.Counter.{lowestSet, unitOf, countIn, maskBit}
-use Rattle.elements.specs.Stores.{stepOf, sizeOf}
+use Rattle.elements.specs.Counter.{unitOf, countIn, maskBit}
 use Rattle.elements.specs.Elements.{actives}
+use Rattle.elements.proofs.Leaves.{at-lowest}
 
 -- ---- what is on under a counter
 
@@ -47,24 +44,10 @@ module _ (u c : ℕ) (whole : (i : ℕ) → i * 8 % u ≡ 0) (more : (i j : ℕ)
       absurd (omega (arith, more i (suc i) (omega arith)))
 
 pub unit-whole : (v i : ℕ) → i * 8 % unitOf v ≡ 0
-unfolding lowestSet
-unit-whole v i = go (eqb (v % 2) 1) (eqb (v % 4) 2) (eqb (v % 8) 4)
-  where
-    go : (a b d : Bool) → i * 8 % 2 ^ cond a 0 (cond b 1 (cond d 2 3)) ≡ 0
-    go true b d = omega arith
-    go false true d = omega arith
-    go false false true = omega arith
-    go false false false = omega arith
+unit-whole v i = at-lowest (λ (s : ℕ). i * 8 % 2 ^ s ≡ 0) (omega arith) (omega arith) (omega arith) (omega arith) v
 
 unit-more : (v i j : ℕ) → i ≤ j → i * 8 / unitOf v ≤ j * 8 / unitOf v
-unfolding lowestSet
-unit-more v i j h = go (eqb (v % 2) 1) (eqb (v % 4) 2) (eqb (v % 8) 4)
-  where
-    go : (a b d : Bool) → i * 8 / 2 ^ cond a 0 (cond b 1 (cond d 2 3)) ≤ j * 8 / 2 ^ cond a 0 (cond b 1 (cond d 2 3))
-    go true b d = omega arith
-    go false true d = omega arith
-    go false false true = omega arith
-    go false false false = omega arith
+unit-more v i j h = at-lowest (λ (s : ℕ). i * 8 / 2 ^ s ≤ j * 8 / 2 ^ s) (omega arith) (omega arith) (omega arith) (omega arith) v
 
 -- doublewords under the counter v
 pub counter-stretch : (v : ℕ) → OneStretch (λ (i : ℕ). maskBit v (i * 8))
@@ -124,16 +107,17 @@ module _ (on : ℕ → Bool) (el : ℕ → Element) where
       let g : InWindow W L (actives on el n (suc e)) = subst (InWindow W L) (actives-off n e q) f in
       three e i
       (λ l. active-in W L n (suc e) g i (omega arith) (omega arith) h)
-      (λ l. let z : true ≡ false = sym h ∙ ap on (sym l) ∙ q in let y : _≡_ {A = ℕ} 0 1 = cc in absurd (omega arith))
+      (λ l. absurd (true≢false (sym h ∙ ap on (sym l) ∙ q)))
       (λ l. absurd (omega arith)))
+
+  -- none from e on
+  pub none-left : (n e : ℕ) → ((j : ℕ) → e ≤ j → on j ≡ false) → actives on el n e ≡ []
+  unfolding actives
+  none-left zero e h = refl
+  none-left (suc n) e h = actives-off n e (h e (omega arith)) ∙ none-left n (suc e) (λ j k. h j (omega arith))
 
   module _ (one : OneStretch on) (N : ℕ)
       (next : (i : ℕ) → suc i < N → on i ≡ true → on (suc i) ≡ true → el (suc i) .address ≡ el i .address + length (el i .bytes)) where
-    none-left : (n e : ℕ) → ((j : ℕ) → e ≤ j → on j ≡ false) → actives on el n e ≡ []
-    unfolding actives
-    none-left zero e h = refl
-    none-left (suc n) e h = actives-off n e (h e (omega arith)) ∙ none-left n (suc e) (λ j k. h j (omega arith))
-
     going-on : (n e : ℕ) → suc e + n ≤ N → on e ≡ true → starts (some (el e .address + length (el e .bytes))) (actives on el n (suc e)) ≡ 0
     unfolding starts actives
     going-on zero e k h = refl
@@ -168,24 +152,3 @@ module _ (on : ℕ → Bool) (el : ℕ → Element) where
       let g = active-in W L n 0 fit (suc i) (omega arith) (omega arith) b in
       omega (arith, long i (omega arith), steps i, steps (suc i), suc-mul i k, f .0, f .1, g .0, g .1))
       n 0 (omega arith)
-
--- ---- strided classes store doublewords
-
-doubleword : Feature → Class → Bool
-doubleword SVE c = true
-doubleword SME2 c = eqb (stepOf c) 8 && eqb (sizeOf c) 8
-doubleword SVE2p1 c = true
-
-all-doublewords : T (every (λ c. doubleword (c .feature) c) classes)
-unfolding every doubleword classes
-all-doublewords = tt
-
-pub doublewords : (k : ℕ) → k < length classes → classAt k .feature ≡ SME2 → (stepOf (classAt k) ≡ 8) × (sizeOf (classAt k) ≡ 8)
-unfolding doubleword classAt
-doublewords k h e =
-    let c = classAt k in
-    let t : T (doubleword SME2 c) =
-    subst (λ (x : Feature). T (doubleword x c)) e (every-at (λ c. doubleword (c .feature) c) classes noClass all-doublewords k h) in
-    let a = and-l (eqb (stepOf c) 8) (eqb (sizeOf c) 8) t in
-    let b = and-r (eqb (stepOf c) 8) (eqb (sizeOf c) 8) t in
-    (eqb→eq (stepOf c) 8 a, eqb→eq (sizeOf c) 8 b)

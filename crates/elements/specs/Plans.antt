@@ -1,15 +1,11 @@
 -- A store's numbers, decided once before its elements are walked. For the contracts of the code's own functions. Assumes nothing.
-use Prim.Native.Nat.{ℕ, _+_, _-_, _*_, _/_, _%_, _^_, _≤_, _<_}
-use Prim.Native.Nat.{zero, suc}
+use Prim.Native.Nat.{ℕ, zero, suc, _+_, _-_, _*_, _/_, _%_, _^_, _≤_, _<_}
 use mathlib.Core.Bool.{Bool, cond, _&&_}
 use mathlib.Core.Path.{_≡_}
-use mathlib.Core.List.{List, [], _∷_, _++_}
+use mathlib.Core.List.{List, [], _++_}
 use lib.Dec.{eqb, ltb, leb}
-use lib.IntN.{ℤ, pos, _*ℤ_}
-use lib.ListN.{length, take, drop}
-use mir.Syntax.{w64}
-use mir.Val.{ofZ}
-use Rattle.encoding.specs.Classes.{Rm, Class, has}
+use lib.ListN.{take, drop}
+use Rattle.encoding.specs.Classes.{Class}
 use Rattle.encoding.specs.declared.Extension.{Extension}
 use Rattle.encoding.specs.declared.Extension.the-variants.{None, Uxtw, Sxtw}
 use Rattle.encoding.specs.declared.ScatterFields.{ScatterFields}
@@ -17,8 +13,8 @@ use Rattle.encoding.specs.declared.StridedFields.{StridedFields}
 use Rattle.encoding.specs.declared.QuadwordFields.{QuadwordFields}
 use Rattle.writes.specs.LittleEndian.{leVal}
 use Rattle.writes.specs.Elements.{Element}
-use Rattle.elements.specs.Machine.{Machine, baseOf, indexOf, register, predicate, bitAt}
-use Rattle.elements.specs.Counter.{unitOf, countIn}
+use Rattle.elements.specs.Machine.{Machine, baseOf, indexOf, register, bitAt}
+use Rattle.elements.specs.Counter.{counterOf, unitOf, countIn}
 use Rattle.elements.specs.Stores.{stepOf, sizeOf, perRegister, signed32, strideOf, startOf}
 use Rattle.elements.specs.Elements.{actives}
 use Rattle.elements.specs.declared.VectorPlan.{VectorPlan}
@@ -48,7 +44,8 @@ unfoldable pub vectorActive : VectorPlan → List ℕ → ℕ → Bool
 vectorActive v governing e = bitAt governing (e * v .step)
 
 unfoldable pub vectorElement : VectorPlan → List ℕ → List ℕ → ℕ → Element
-vectorElement v offsets stored e = record { number = e; address = vectorAddress v offsets e; bytes = take (v .size) (drop (e * v .step) stored) }
+vectorElement v offsets stored e =
+    record { number = e; address = vectorAddress v offsets e; bytes = take (v .size) (drop (e * v .step) stored) }
 
 abbrev pub scatterPlan : Machine → Class → ScatterFields → VectorPlan
 scatterPlan m c f =
@@ -111,8 +108,8 @@ abbrev pub stridedPlan : Machine → Class → StridedFields → StridedPlan
 stridedPlan m c f =
     record {
       start = startOf m c (f .rn) (f .rm) (f .multiple) % 2 ^ 64;
-      low = lowOf (leVal (take 2 (predicate m (8 + f .pc)))) (c .nreg * perRegister m c);
-      high = highOf (leVal (take 2 (predicate m (8 + f .pc)))) (c .nreg * perRegister m c);
+      low = lowOf (counterOf m (f .pc)) (c .nreg * perRegister m c);
+      high = highOf (counterOf m (f .pc)) (c .nreg * perRegister m c);
       step = stepOf c;
       size = sizeOf c;
       per = perRegister m c;

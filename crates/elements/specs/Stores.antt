@@ -1,7 +1,7 @@
 -- What a decoded store's elements are on a machine: document 01, 'Steps of one store'. Element e's data, address and activity.
 -- Assumes nothing.
 use Prim.Native.Nat.{ℕ, _+_, _-_, _*_, _/_, _%_, _^_}
-use mathlib.Core.Bool.{Bool, true, false, cond}
+use mathlib.Core.Bool.{Bool, cond}
 use mathlib.Core.List.{List}
 use lib.Dec.{eqb, ltb}
 use lib.IntN.{ℤ, pos, _*ℤ_}
@@ -16,7 +16,7 @@ use Rattle.encoding.specs.declared.Store.{Store}
 use Rattle.encoding.specs.declared.Store.the-variants.{Scatter, Strided, Quadword}
 use Rattle.writes.specs.LittleEndian.{leVal}
 use Rattle.elements.specs.Machine.{Machine, baseOf, indexOf, vector, predicate, bitAt}
-use Rattle.elements.specs.Counter.{maskBit}
+use Rattle.elements.specs.Counter.{counterOf, maskBit}
 
 -- an element's bytes in its register, and how many of them go to memory: esize/8, msize/8
 abbrev pub stepOf : Class → ℕ
@@ -35,10 +35,10 @@ countOf m s = classFor s .nreg * perRegister m (classFor s)
 
 -- ---- activity
 
--- "element e is active when bit e·esize/8 is 1"; "Classes 8 to 11 use P register 8 + Pc as a counter", and the low 16 bits of it
+-- "element e is active when bit e·esize/8 is 1"; "Element r·(VB/8) + e is active when its bit at 8 times that number is set."
 abbrev pub activeIn : Machine → Class → Store → ℕ → Bool
 activeIn m c (Scatter f) e = bitAt (predicate m (f .pg)) (e * stepOf c)
-activeIn m c (Strided f) e = maskBit (leVal (take 2 (predicate m (8 + f .pc)))) (e * stepOf c)
+activeIn m c (Strided f) e = maskBit (counterOf m (f .pc)) (e * stepOf c)
 activeIn m c (Quadword f) e = bitAt (predicate m (f .pg)) (e * stepOf c)
 
 -- ---- addresses

@@ -11,9 +11,12 @@ ghost use mir.Val.{ofZ};
 ghost use Rattle.encoding.specs.Encoding.{classFor, refused};
 ghost use Rattle.encoding.specs.Layouts.{layoutOf};
 ghost use Rattle.elements.specs.Machine.{machine, register, bitAt};
-ghost use Rattle.elements.specs.Counter.{lowestSet, countIn};
+ghost use Rattle.elements.specs.Counter.{counterOf, lowestSet, countIn};
 ghost use Rattle.elements.specs.Stores.{signed32, startOf};
-ghost use Rattle.elements.specs.Plans.{offsetBytes, offsetFrom, addressFrom, vectorAddress, vectorActive, stridedAddress, stridedActive, stridedElement, scatterPlan, quadwordPlan, stridedPlan, borderOf, lowOf, highOf, bytesFrom, stridedBytes, PartOf, StridedSound};
+ghost use Rattle.elements.specs.Plans.{scatterPlan, quadwordPlan, stridedPlan, PartOf, StridedSound};
+ghost use Rattle.elements.specs.Plans.{offsetBytes, offsetFrom, addressFrom, vectorAddress, vectorActive};
+ghost use Rattle.elements.specs.Plans.{borderOf, lowOf, highOf, stridedAddress, stridedActive, stridedElement};
+ghost use Rattle.elements.specs.Plans.{bytesFrom, stridedBytes};
 ghost use Rattle.writes.specs.Elements.{over};
 use encoding::Extension;
 use encoding::Layout;
@@ -21,6 +24,7 @@ use encoding::QuadwordFields;
 use encoding::ScatterFields;
 use encoding::Store;
 use encoding::StridedFields;
+use encoding::complement::bits_of;
 
 // A scatter or quadword store: offset and base of each address, bytes from element to element, bytes to move, the elements' number,
 // and the registers with the offsets, the predicate and the data. The one-byte field comes first, where a refusal's tag lies in
@@ -151,6 +155,14 @@ pub fn vector_active(v: VectorPlan, governing: &[u8], e: usize) -> bool
     bit(governing, e * v.step)
 }
 
+// The counter of a store with this Pc.
+fn counter_of(p: &[u8], vb: usize, pc: u8) -> u64
+    requires { ⌜ (pc < 8) × (16 ≤ vb) × (vb ≤ 256) × (length (now p) ≡ 2 * vb) ⌝ }
+    ensures { λ r. ⌜ r ≡ counterOf (machine vb [] 0 [] (now (p .entry))) pc ⌝ }
+{
+    writes::le16(register_of(p, vb / 8, 8 + pc as usize), 0)
+}
+
 // The place of a counter's lowest set bit among its low four.
 pub fn lowest_set(v: u64) -> u32
     ensures { λ r. ⌜ (r ≡ lowestSet v) × (r < 4) ⌝ }
@@ -224,17 +236,6 @@ pub fn strided_address(s: StridedPlan, e: usize) -> u64
     std::num::wrapping_add_u64(s.start, (e * s.step) as u64)
 }
 
-// The 64 bits of a signed number.
-pub fn bits_of(z: i64) -> u64
-    ensures { λ r. ⌜ r ≡ ofZ w64 z ⌝ }
-{
-    if 0 <= z {
-        z as u64
-    } else {
-        u64::MAX - (!z) as u64
-    }
-}
-
 // base + z * unit, modulo 2^64.
 pub fn displaced(base: u64, z: i64, unit: usize) -> u64
     requires { ⌜ (natAbs z ≤ 64) × (unit ≤ 256) ⌝ }
@@ -248,7 +249,7 @@ pub fn scatter_plan(f: ScatterFields, vb: usize, x: &[u64; 31], sp: u64) -> Vect
     requires { ⌜ (refused (Store.Scatter f) ≡ false) × (vb ≤ 256) ⌝ }
     ensures { λ r. ⌜ r ≡ scatterPlan (machine vb (now (x .entry)) sp [] []) (classFor (Store.Scatter f)) f ⌝ }
 {
-    let layout = encoding::layout_for(f.class, 0);
+    let layout = encoding::layout_for(f.class);
     let base = general(x, sp, f.rn);
     let extension = f.extension;
     let step = layout.step as usize;
@@ -269,16 +270,16 @@ pub fn quadword_plan(f: QuadwordFields, vb: usize, x: &[u64; 31]) -> VectorPlan
     requires { ⌜ (refused (Store.Quadword f) ≡ false) × (vb ≤ 256) ⌝ }
     ensures { λ r. ⌜ r ≡ quadwordPlan (machine vb (now (x .entry)) 0 [] []) (classFor (Store.Quadword f)) f ⌝ }
 {
-    let layout = encoding::layout_for(f.class, 2);
+    let layout = encoding::layout_for(f.class);
     let base = general(x, 0, f.rm);
-    let step = layout.step as usize;
+    let quadword = layout.step as usize;
     VectorPlan {
         base,
         extension: Extension::None,
         scale: 0,
-        step,
+        step: quadword,
         size: layout.size as usize,
-        count: vb / step,
+        count: vb / quadword,
         offsets: f.zn as usize,
         governing: f.pg as usize,
         stored: f.zt as usize,
@@ -289,14 +290,15 @@ pub fn quadword_plan(f: QuadwordFields, vb: usize, x: &[u64; 31]) -> VectorPlan
 fn start_of(f: StridedFields, layout: Layout, vb: usize, x: &[u64; 31], sp: u64) -> u64
     requires { ⌜ (refused (Store.Strided f) ≡ false) × (vb ≤ 256) ⌝ }
     requires { ⌜ layout ≡ layoutOf (classFor (Store.Strided f)) ⌝ }
-    ensures { λ r. ⌜ r ≡ startOf (machine vb (now (x .entry)) sp [] []) (classFor (Store.Strided f)) (f .rn) (f .rm) (f .multiple) % 2 ^ 64 ⌝ }
+    ensures { λ r.
+        ⌜ r ≡ startOf (machine vb (now (x .entry)) sp [] []) (classFor (Store.Strided f)) (f .rn) (f .rm) (f .multiple) % 2 ^ 64 ⌝ }
 {
-    let base = general(x, sp, f.rn);
+    let start = general(x, sp, f.rn);
     if layout.rm == 1 {
-        return displaced(base, f.multiple, vb);
+        return displaced(start, f.multiple, vb);
     }
     let index = general(x, 0, f.rm);
-    std::num::wrapping_add_u64(base, scaled(index, layout.scale))
+    std::num::wrapping_add_u64(start, scaled(index, layout.scale))
 }
 
 // From one register of a strided store to the next: 8 for two, 4 for four.
@@ -314,9 +316,9 @@ pub fn strided_plan(f: StridedFields, vb: usize, x: &[u64; 31], sp: u64, p: &[u8
     requires { ⌜ (16 ≤ vb) × (vb ≤ 256) × (length (now p) ≡ 2 * vb) ⌝ }
     ensures { λ r. ⌜ r ≡ stridedPlan (machine vb (now (x .entry)) sp [] (now (p .entry))) (classFor (Store.Strided f)) f ⌝ }
 {
-    let layout = encoding::layout_for(f.class, 1);
+    let layout = encoding::layout_for(f.class);
     let start = start_of(f, layout, vb, x, sp);
-    let counter = writes::le16(register_of(p, vb / 8, 8 + f.pc as usize), 0);
+    let counter = counter_of(p, vb, f.pc);
     let border = border_of(counter);
     let per = vb / 8;
     let nreg = layout.nreg as usize;
@@ -335,20 +337,32 @@ pub fn strided_plan(f: StridedFields, vb: usize, x: &[u64; 31], sp: u64, p: &[u8
     }
 }
 
+// The bytes of register r of a strided store.
+fn row_of(s: StridedPlan, vb: usize, z: &[u8], r: usize) -> &[u8]
+    requires { ⌜ StridedSound s vb ⌝ }
+    requires { ⌜ length (now z) ≡ 32 * vb ⌝ }
+    requires { ⌜ r < s .nreg ⌝ }
+    ensures { λ q. ⌜ now q ≡ register vb (now (z .entry)) (s .first + r * s .stride) ⌝ }
+{
+    register_of(z, vb, s.first + r * s.stride)
+}
+
 // Copies elements e up to `to`, which are active and of register r, to their place among the active elements' bytes.
 fn copy_part(s: StridedPlan, vb: usize, z: &[u8], r: usize, e: usize, to: usize, out: &mut [u8])
     requires { ⌜ StridedSound s vb ⌝ }
     requires { ⌜ length (now z) ≡ 32 * vb ⌝ }
     requires { ⌜ PartOf s r e to ⌝ }
     requires { ⌜ length (now out) ≡ (s .high - s .low) * s .size ⌝ }
-    ensures { λ _. ⌜ now (out .exit) ≡ over (now (out .entry)) ((e - s .low) * s .size) (bytesFrom (stridedElement s vb (now (z .entry))) (to - e) e) ⌝ }
+    ensures { λ _.
+        ⌜ now (out .exit)
+        ≡ over (now (out .entry)) ((e - s .low) * s .size) (bytesFrom (stridedElement s vb (now (z .entry))) (to - e) e) ⌝ }
 {
     let n = (to - e) * s.size;
     let from = (e - r * s.per) * s.step;
     let end = from + n;
     let at = (e - s.low) * s.size;
     let until = at + n;
-    let reg = register_of(z, vb, s.first + r * s.stride);
+    let reg = row_of(s, vb, z, r);
     writes::copy(&mut out[at..until], &reg[from..end]);
 }
 

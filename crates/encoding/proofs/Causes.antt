@@ -1,21 +1,20 @@
 -- The causes of verdict 11 as one test: each value in its field's range in the class, and an extension where it has one.
 -- Assumes nothing.
-use mathlib.Core.Path.{_≡_, refl, sym, ap, ap₂, _∙_, subst}
+use mathlib.Core.Path.{_≡_, refl, sym, ap, _∙_}
 use mathlib.Core.Bool.{Bool, true, false, not, cond, _&&_, _||_}
 use mathlib.Core.List.{List, [], _∷_}
 use Prim.Native.Nat.{ℕ, zero, suc, _+_, _^_, _≤_, _<_}
 use native.Mathlib.Omega.{arith}
-use lib.Arith.{lt-one}
-use lib.Dec.{T, eqb, ltb, leb, ltb→lt, lt→ltb, leb→le, le→leb, eqb→eq}
-use lib.Ieee.Fits.{and-i, and-l, and-r}
+use lib.Dec.{T, eqb, ltb, le→leb}
 use lib.ListN.{length}
-use borrow.Author.Tests.{lt-ltb, le-ltb, ne-eqb, lt-leb}
+use borrow.Author.Tests.{le-ltb, ne-eqb, lt-leb}
 use Rattle.encoding.specs.Classes.{Class, classes, classAt, any, size, has, width}
-use Rattle.encoding.specs.Encoding.{Value, numbersIn, valuesIn, placed, rowFor, classFor, notListed, outOfRange, lacked, unnamed, misextended, refused, encodeOf}
+use Rattle.encoding.specs.Encoding.{Value, numbersIn, valuesIn, placed, rowFor, classFor, notListed, outOfRange, lacked, unnamed}
+use Rattle.encoding.specs.Encoding.{misextended, refused, encodeOf}
 use Rattle.encoding.specs.declared.Store.{Store}
 use Rattle.encoding.specs.declared.Encoded.{Encoded}
 use Rattle.encoding.specs.declared.Encoded.the-variants.{Word, Fields}
-use Rattle.encoding.proofs.Tests.{every, cond-true, cond-false, holds, fails}
+use Rattle.encoding.proofs.Tests.{every, cond-true, fails, told, telling}
 
 -- each value is one that its field has in the class
 abbrev pub ranged : Class → List Value → Bool
@@ -24,25 +23,27 @@ ranged c vs = every (λ v. ltb (v .number) (2 ^ width c (v .field))) vs
 unfoldable pub fits : Class → Store → Bool
 fits c s = ranged c (numbersIn s) && not (unnamed c s) && not (misextended c s)
 
+abbrev others : Class → Store → List Bool
+others c s = not (unnamed c s) ∷ not (misextended c s) ∷ []
+
 -- the three tests of it
 module _ (c : Class) (s : Store) where
   pub fits-made : T (ranged c (numbersIn s)) → T (not (unnamed c s)) → T (not (misextended c s)) → T (fits c s)
   unfolding fits
-  fits-made r u m =
-      and-i (ranged c (numbersIn s) && not (unnamed c s)) (not (misextended c s)) (and-i (ranged c (numbersIn s)) (not (unnamed c s)) r u) m
+  fits-made r u m = telling (ranged c (numbersIn s)) (others c s) (r, (u, (m, tt)))
 
   module _ (t : T (fits c s)) where
     pub in-range : T (ranged c (numbersIn s))
     unfolding fits
-    in-range = and-l (ranged c (numbersIn s)) (not (unnamed c s)) (and-l (ranged c (numbersIn s) && not (unnamed c s)) (not (misextended c s)) t)
+    in-range = told (ranged c (numbersIn s)) (others c s) t .0
 
     pub is-named : T (not (unnamed c s))
     unfolding fits
-    is-named = and-r (ranged c (numbersIn s)) (not (unnamed c s)) (and-l (ranged c (numbersIn s) && not (unnamed c s)) (not (misextended c s)) t)
+    is-named = told (ranged c (numbersIn s)) (others c s) t .1 .0
 
     pub is-extended : T (not (misextended c s))
     unfolding fits
-    is-extended = and-r (ranged c (numbersIn s) && not (unnamed c s)) (not (misextended c s)) t
+    is-extended = told (ranged c (numbersIn s)) (others c s) t .1 .1 .0
 
 -- a value outside its field's range, or other than 0 where there is no field
 out-or-lacked : (h : Bool) (n v : ℕ) → (h && not (ltb v (2 ^ n))) || (not h && not (eqb v 0)) ≡ not (ltb v (2 ^ cond h n 0))
@@ -87,6 +88,9 @@ causes false o l u m true e f = ap (λ (b : Bool). b || u || m) f ∙ go u m
 causes false o l u m false e f = ap (λ (b : Bool). b || u || m) f
 
 module _ (s : Store) (k : ℕ) (e : k ≡ rowFor s) where
+  abbrev answer : Bool → Encoded
+  answer x = cond x Fields (Word (classFor s .base + placed (valuesIn (classFor s) s)))
+
   pub encode-out : length classes ≤ k → Fields ≡ encodeOf s
   unfolding encodeOf refused
   encode-out h =
@@ -101,8 +105,9 @@ module _ (s : Store) (k : ℕ) (e : k ≡ rowFor s) where
     pub refused-is : refused s ≡ not (fits (classAt k) s)
     unfolding refused outOfRange lacked fits
     refused-is =
-        causes (notListed s) (outOfRange (classFor s) s) (lacked (classFor s) s) (unnamed (classFor s) s) (misextended (classFor s) s) (ranged (classFor s) (numbersIn s))
-        (lt-leb (length classes) (rowFor s) (omega arith)) (ranges (classFor s) (numbersIn s))
+        let c = classFor s in
+        causes (notListed s) (outOfRange c s) (lacked c s) (unnamed c s) (misextended c s) (ranged c (numbersIn s))
+        (lt-leb (length classes) (rowFor s) (omega arith)) (ranges c (numbersIn s))
         ∙ ap (λ (j : ℕ). not (fits (classAt j) s)) (sym e)
 
     pub encode-yes : (b : Bool) (w : ℕ) → b ≡ fits (classAt k) s → b ≡ true → w ≡ classAt k .base + placed (valuesIn (classAt k) s)
@@ -110,9 +115,9 @@ module _ (s : Store) (k : ℕ) (e : k ≡ rowFor s) where
     unfolding encodeOf
     encode-yes b w f t q =
         ap Word (q ∙ ap (λ (j : ℕ). classAt j .base + placed (valuesIn (classAt j) s)) e)
-        ∙ sym (ap (λ (x : Bool). cond x Fields (Word (classFor s .base + placed (valuesIn (classFor s) s)))) (refused-is ∙ ap not (sym f ∙ t)))
+        ∙ sym (ap answer (refused-is ∙ ap not (sym f ∙ t)))
 
     pub encode-no : (b : Bool) → b ≡ fits (classAt k) s → b ≡ false → Fields ≡ encodeOf s
     unfolding encodeOf
     encode-no b f t =
-        sym (ap (λ (x : Bool). cond x Fields (Word (classFor s .base + placed (valuesIn (classFor s) s)))) (refused-is ∙ ap not (sym f ∙ t)))
+        sym (ap answer (refused-is ∙ ap not (sym f ∙ t)))

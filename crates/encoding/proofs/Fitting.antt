@@ -1,14 +1,12 @@
 -- The encoder's tests and sums are those of the definitions, for each case of store. Assumes nothing.
 use mathlib.Core.Path.{_≡_, refl, sym, ap, ap₂, _∙_}
 use mathlib.Core.Bool.{Bool, true, false, not, cond, _&&_, _||_, and-true}
-use mathlib.Core.List.{List, [], _∷_}
 use Prim.Native.Nat.{ℕ, _+_, _*_, _/_, _%_, _^_, _<_}
 use native.Mathlib.Omega.{arith}
 use lib.Dec.{eqb, ltb}
-use lib.IntN.{ℤ}
 use lib.ListN.{length}
-use Rattle.encoding.specs.Classes as C
-use Rattle.encoding.specs.Classes.{Zm, Rm, imm4, xs, Pg, Pc, Rn, Zn, Zt, Zt3, Zt2, low, SVE, SME2, SVE2p1, Class, classes, classAt, has, width}
+use Rattle.encoding.specs.Classes.{imm4, Zt3, Zt2, low, Class, classes, classAt, has, width}
+use Rattle.encoding.specs.declared.Feature.the-variants.{SVE, SME2, SVE2p1}
 use Rattle.encoding.specs.Decoding.{ztOf}
 use Rattle.encoding.specs.Encoding.{misextends, xsOf, immOf, placed, valuesIn}
 use Rattle.encoding.specs.Layouts.{layoutOf}
@@ -53,9 +51,9 @@ module _ (k : ℕ) (h : k < length classes) where
   unfolding fits every
   scatter-fit e f l g a b p q =
       let s = scattered k h e in
-      let zm = sym (s .zm) in
+      let zm = sym (s .first) in
       let pg = sym (s .pg) in
-      let rn = sym (s .rn) in
+      let rn = sym (s .second) in
       let zt = sym (s .zt) in
       ap₂ _&&_
       (p
@@ -68,7 +66,8 @@ module _ (k : ℕ) (h : k < length classes) where
 
   pub strided-fit : classAt k .feature ≡ SME2 → (f : StridedFields) (l : Layout) → l ≡ layoutOf (classAt k) → (a : Bool) (i : ℕ)
       → i ≡ immOf (l .nreg) (l .imm4) (f .multiple)
-      → a ≡ ltb (f .rm) (l .rm) && ltb (f .pc) 8 && ltb (f .rn) 32 && ltb (f .first / 16) 2 && ltb (f .first % 16) (l .zt) && ltb i (l .imm4)
+      → a
+      ≡ ltb (f .rm) (l .rm) && ltb (f .pc) 8 && ltb (f .rn) 32 && ltb (f .first / 16) 2 && ltb (f .first % 16) (l .zt) && ltb i (l .imm4)
       → a ≡ fits (classAt k) (Strided f)
   unfolding fits every
   strided-fit e f l g a i q p =
@@ -78,11 +77,19 @@ module _ (k : ℕ) (h : k < length classes) where
       let t = sym (s .t) in
       p
       ∙ and6 (ltb (f .rm) (l .rm)) (ltb (f .pc) 8) (ltb (f .rn) 32) (ltb (f .first / 16) 2) (ltb (f .first % 16) (l .zt)) (ltb i (l .imm4))
-      ∙ ap (λ (n : ℕ). ltb (f .rm) (l .rm) && (ltb (f .pc) 8 && (ltb (f .rn) 32 && true)) && not (not (ltb (f .first / 16) 2 && ltb (f .first % 16) (l .zt)) || not (ltb n (l .imm4))) && true) q
+      ∙ ap
+      (λ (n : ℕ).
+      ltb (f .rm) (l .rm)
+      && (ltb (f .pc) 8 && (ltb (f .rn) 32 && true))
+      && not (not (ltb (f .first / 16) 2 && ltb (f .first % 16) (l .zt)) || not (ltb n (l .imm4)))
+      && true)
+      q
       ∙ (λ j.
       ltb (f .rm) (g j .rm)
       && (ltb (f .pc) (2 ^ pc j) && (ltb (f .rn) (2 ^ rn j) && true))
-      && not (not (ltb (f .first / 16) (2 ^ t j) && ltb (f .first % 16) (g j .zt)) || not (ltb (immOf (g j .nreg) (g j .imm4) (f .multiple)) (g j .imm4)))
+      && not
+      (not (ltb (f .first / 16) (2 ^ t j) && ltb (f .first % 16) (g j .zt))
+      || not (ltb (immOf (g j .nreg) (g j .imm4) (f .multiple)) (g j .imm4)))
       && true)
 
   pub quadword-fit : classAt k .feature ≡ SVE2p1 → (f : QuadwordFields) (a : Bool)
@@ -91,9 +98,9 @@ module _ (k : ℕ) (h : k < length classes) where
   unfolding fits every
   quadword-fit e f a p =
       let s = quad k h e in
-      let rm = sym (s .rm) in
+      let rm = sym (s .first) in
       let pg = sym (s .pg) in
-      let zn = sym (s .zn) in
+      let zn = sym (s .second) in
       let zt = sym (s .zt) in
       p
       ∙ and4 (ltb (f .rm) 32) (ltb (f .pg) 8) (ltb (f .zn) 32) (ltb (f .zt) 32)

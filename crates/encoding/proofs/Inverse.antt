@@ -1,36 +1,52 @@
 -- A class's stores and the values of their fields determine each other. Assumes nothing.
-use mathlib.Core.Path.{_≡_, refl, sym, ap, ap₂, _∙_, subst}
+use mathlib.Core.Path.{_≡_, refl, sym, subst}
 use mathlib.Core.Bool.{Bool, true, false, not, cond, _&&_, _||_}
 use mathlib.Core.List.{List, [], _∷_, map}
-use Prim.Native.Nat.{ℕ, zero, suc, _+_, _*_, _/_, _%_, _^_, _≤_, _<_}
+use Prim.Native.Nat.{ℕ, zero, suc, _+_, _*_, _/_, _%_, _^_, _<_}
 use native.Mathlib.Nat.{div-add-mod', mod-lt}
 use native.Mathlib.Omega.{arith}
 use lib.Arith.{lt-one}
 use lib.Dec.{T, eqb, ltb, ltb→lt, lt→ltb}
-use lib.Ieee.Fits.{and-i, and-l, and-r}
-use lib.IntN.{ℤ}
 use lib.ListN.{getD}
 use lib.Pow.{pow-pos}
 use Rattle.encoding.specs.Classes as C
-use Rattle.encoding.specs.Classes.{Field, Zm, Rm, imm4, xs, Pg, Pc, Rn, Zn, Zt, low, Feature, SVE, SME2, SVE2p1, Class, has, width, read}
+use Rattle.encoding.specs.Classes.{Field, Zm, Rm, imm4, xs, Pg, Pc, Rn, Zn, Zt, low, Class, has, width, read}
+use Rattle.encoding.specs.declared.Feature.{Feature}
+use Rattle.encoding.specs.declared.Feature.the-variants.{SVE, SME2, SVE2p1}
 use Rattle.encoding.specs.Decoding.{extensionOf, multipleOf, ztOf, storeAs}
 use Rattle.encoding.specs.Encoding.{numberOf, featureOf, Value, valuesIn, placed, xsOf, immOf, isNone, misextends}
 use Rattle.encoding.specs.declared.Extension.{Extension}
 use Rattle.encoding.specs.declared.Extension.the-variants.{None, Uxtw, Sxtw}
 use Rattle.encoding.specs.declared.Store.{Store}
 use Rattle.encoding.specs.declared.Store.the-variants.{Scatter, Strided, Quadword}
-use Rattle.encoding.proofs.Tests.{every, holds, fails}
+use Rattle.encoding.proofs.Tests.{every, made}
 use Rattle.encoding.proofs.Signed.{imm-multiple, multiple-imm}
-use Rattle.encoding.proofs.Places.{Place, reads, sumAt, fit}
-use Rattle.encoding.proofs.Rows.{at, placesAs, Small, Striding}
+use Rattle.encoding.proofs.Places.{reads, sumAt, fit}
+use Rattle.encoding.proofs.Rows.{placesAs, Small, Striding}
 use Rattle.encoding.proofs.Causes.{fits, fits-made, in-range, is-named, is-extended}
 
 -- the store with these values
 abbrev pub fromAs : Feature → Class → List ℕ → Store
 fromAs SVE c vs =
-    Scatter (record { class = c .number; zm = getD vs 0 0; extension = extensionOf (has c xs) (getD vs 1 0); pg = getD vs 2 0; rn = getD vs 3 0; zt = getD vs 4 0 })
+    Scatter
+    (record {
+      class = c .number;
+      zm = getD vs 0 0;
+      extension = extensionOf (has c xs) (getD vs 1 0);
+      pg = getD vs 2 0;
+      rn = getD vs 3 0;
+      zt = getD vs 4 0;
+    })
 fromAs SME2 c vs =
-    Strided (record { class = c .number; rm = getD vs 0 0; multiple = multipleOf (c .nreg) (getD vs 1 0); pc = getD vs 2 0; rn = getD vs 3 0; first = getD vs 4 0 * 16 + getD vs 5 0 })
+    Strided
+    (record {
+      class = c .number;
+      rm = getD vs 0 0;
+      multiple = multipleOf (c .nreg) (getD vs 1 0);
+      pc = getD vs 2 0;
+      rn = getD vs 3 0;
+      first = getD vs 4 0 * 16 + getD vs 5 0;
+    })
 fromAs SVE2p1 c vs = Quadword (record { class = c .number; rm = getD vs 0 0; pg = getD vs 1 0; zn = getD vs 2 0; zt = getD vs 3 0 })
 
 -- and a store's values
@@ -159,7 +175,8 @@ module _ (c : Class) (b : Small c) (w : ℕ) where
   zt-small = omega (arith, b .zt .1, mod-lt (w / 2 ^ low (ztOf c)) (pow-pos (width c (ztOf c))))
 
   imm-back : Striding c → immOf (c .nreg) (2 ^ width c imm4) (multipleOf (c .nreg) (read c imm4 w)) ≡ read c imm4 w
-  imm-back s = imm-multiple (c .nreg) (s .nreg) (2 ^ width c imm4) (read c imm4 w) (mod-lt (w / 2 ^ 16) (pow-pos (width c imm4))) (b .imm4 .1)
+  imm-back s =
+      imm-multiple (c .nreg) (s .nreg) (2 ^ width c imm4) (read c imm4 w) (mod-lt (w / 2 ^ 16) (pow-pos (width c imm4))) (b .imm4 .1)
 
   pub store-values : (x : Feature) → (x ≡ SME2 → Striding c) → numbers c (storeAs x c w) ≡ reads (placesAs x c) w
   store-values SVE s =
@@ -172,8 +189,9 @@ module _ (c : Class) (b : Small c) (w : ℕ) where
       λ i. read c Rm w ∷ e i ∷ read c Pc w ∷ read c Rn w ∷ t i ∷ z i ∷ []
   store-values SVE2p1 s = refl
 
-  four : (a b c d : Bool) → T a → T b → T c → T d → T (a && (b && (c && (d && true))))
-  four a b c d p q r s = and-i a (b && (c && (d && true))) p (and-i b (c && (d && true)) q (and-i c (d && true) r (and-i d true s tt)))
+  -- a field's value has as many bits as the field
+  abbrev fitting : Field → Bool
+  fitting f = ltb (read c f w) (2 ^ width c f)
 
   named-made : (a b i : Bool) → T a → T b → T i → T (not (not (a && b) || not i))
   named-made true true true p q r = tt
@@ -185,15 +203,13 @@ module _ (c : Class) (b : Small c) (w : ℕ) where
   unfolding every
   store-fits SVE s =
       fits-made c (storeAs SVE c w)
-      (four (ltb (read c Zm w) (2 ^ width c Zm)) (ltb (read c Pg w) (2 ^ width c Pg)) (ltb (read c Rn w) (2 ^ width c Rn)) (ltb (read c Zt w) (2 ^ width c Zt))
-      (below c Zm w) (below c Pg w) (below c Rn w) (below c Zt w))
+      (made (fitting Zm ∷ fitting Pg ∷ fitting Rn ∷ fitting Zt ∷ []) (below c Zm w, (below c Pg w, (below c Rn w, (below c Zt w, tt)))))
       tt (extended (has c xs) (read c xs w))
   store-fits SME2 s =
       let first = read c C.T w * 16 + read c (ztOf c) w in
       let i = immOf (c .nreg) (2 ^ width c imm4) (multipleOf (c .nreg) (read c imm4 w)) in
       fits-made c (storeAs SME2 c w)
-      (and-i (ltb (read c Rm w) (2 ^ width c Rm)) _ (below c Rm w)
-      (and-i (ltb (read c Pc w) (2 ^ width c Pc)) _ (below c Pc w) (and-i (ltb (read c Rn w) (2 ^ width c Rn)) true (below c Rn w) tt)))
+      (made (fitting Rm ∷ fitting Pc ∷ fitting Rn ∷ []) (below c Rm w, (below c Pc w, (below c Rn w, tt))))
       (named-made (ltb (first / 16) (2 ^ width c C.T)) (ltb (first % 16) (2 ^ width c (ztOf c))) (ltb i (2 ^ width c imm4))
       (subst (λ (n : ℕ). T (ltb n (2 ^ width c C.T))) (sym (top (read c C.T w) (read c (ztOf c) w) zt-small)) (below c C.T w))
       (subst (λ (n : ℕ). T (ltb n (2 ^ width c (ztOf c)))) (sym (rest (read c C.T w) (read c (ztOf c) w) zt-small)) (below c (ztOf c) w))
@@ -201,6 +217,5 @@ module _ (c : Class) (b : Small c) (w : ℕ) where
       tt
   store-fits SVE2p1 s =
       fits-made c (storeAs SVE2p1 c w)
-      (four (ltb (read c Rm w) (2 ^ width c Rm)) (ltb (read c Pg w) (2 ^ width c Pg)) (ltb (read c Zn w) (2 ^ width c Zn)) (ltb (read c Zt w) (2 ^ width c Zt))
-      (below c Rm w) (below c Pg w) (below c Zn w) (below c Zt w))
+      (made (fitting Rm ∷ fitting Pg ∷ fitting Zn ∷ fitting Zt ∷ []) (below c Rm w, (below c Pg w, (below c Zn w, (below c Zt w, tt)))))
       tt tt

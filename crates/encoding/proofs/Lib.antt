@@ -9,4 +9,5 @@ pub mod Causes
 pub mod Fitting
 pub mod Inverse
 pub mod Statements
+pub mod Numbers
 pub mod Narrow

@@ -1,21 +1,18 @@
 -- What a store that encodes to a word has: numbers below 256. Assumes nothing.
-use mathlib.Core.Path.{_≡_, refl, sym, ap, _∙_, subst}
-use mathlib.Core.Bool.{Bool, true, false, not, cond, _&&_, _||_}
+use mathlib.Core.Path.{_≡_}
+use mathlib.Core.Bool.{Bool, true, false, cond}
 use mathlib.Core.List.{List, [], _∷_}
-use Prim.Native.Nat.{ℕ, suc, _/_, _%_, _^_, _≤_, _<_}
-use native.Mathlib.Nat.{lt-of-lt-of-le}
+use Prim.Native.Nat.{ℕ, _/_, _%_, _^_, _≤_, _<_}
 use native.Mathlib.Omega.{arith}
 use lib.Dec.{T, ltb, ltb→lt, lt→ltb, lit≤}
 use lib.Ieee.Fits.{and-i, and-l, and-r}
-use lib.ListN.{length}
-use lib.Pow.{pow-mono}
 use Rattle.encoding.specs.Classes as C
 use Rattle.encoding.specs.Classes.{Field, Zm, Rm, imm4, xs, Pg, Pc, Rn, Zn, Zt, Zt3, Zt2, size, Class, classes, classAt, has, width}
 use Rattle.encoding.specs.Decoding.{ztOf}
 use Rattle.encoding.specs.Encoding.{Value, numbersIn, immOf, numberOf, featureOf, rowFor, encodeOf}
 use Rattle.encoding.specs.declared.Store.{Store}
 use Rattle.encoding.specs.declared.Store.the-variants.{Scatter, Strided, Quadword}
-use Rattle.encoding.specs.declared.Encoded.the-variants.{Word, Fields}
+use Rattle.encoding.specs.declared.Encoded.the-variants.{Word}
 use Rattle.encoding.proofs.Tests.{every}
 use Rattle.encoding.proofs.Rows.{row-holds}
 use Rattle.encoding.proofs.Causes.{ranged, fits, in-range, is-named}

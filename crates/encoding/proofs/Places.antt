@@ -1,10 +1,10 @@
 -- Values at their places in a word: what holds of every list of places that descends. A place of no width holds 0 alone.
 -- Assumes nothing.
 use mathlib.Core.Path.{_≡_, refl, sym, ap, ap₂, _∙_, subst}
-use mathlib.Core.Bool.{Bool, true, false, not, cond, _&&_, _||_}
+use mathlib.Core.Bool.{Bool, true, false, cond, _&&_, _||_}
 use mathlib.Core.List.{List, [], _∷_}
-use Prim.Native.Nat.{ℕ, zero, suc, _+_, _-_, _*_, _/_, _%_, _^_, _≤_, _<_, min}
-use native.Mathlib.Nat.{mod-lt, mod-one, mod-eq-of-lt, lt-of-lt-of-le, lt-of-le-of-lt}
+use Prim.Native.Nat.{ℕ, _+_, _-_, _*_, _/_, _%_, _^_, _≤_, _<_, min}
+use native.Mathlib.Nat.{mod-lt, mod-eq-of-lt, lt-of-lt-of-le, lt-of-le-of-lt}
 use native.Mathlib.Omega.{arith}
 use lib.Arith.{digits-lt, lt-one}
 use lib.Bits.{bitAnd, and-zero-r, and-comm, and-le-l, and-mask, or-disjoint, or-lt}
@@ -12,7 +12,7 @@ use lib.Dec.{T, eqb, ltb, leb, eqb→eq, eqb-refl, ltb→lt, lt→ltb, leb→le}
 use lib.Ieee.Fits.{and-i, and-l, and-r}
 use lib.Pow.{pow-pos, pow-add, pow-mono, high, low, ones-lt}
 use Rattle.encoding.specs.Classes.{Field, bit, everyBelow, inside}
-use Rattle.encoding.proofs.Tests.{below-at, below-all, holds}
+use Rattle.encoding.proofs.Tests.{Facts, below-at, below-all, holds}
 use Rattle.encoding.proofs.Bits.{bit-and, bits-equal, and-below, and-head, and-add}
 
 pub record Place : Type 0 where
@@ -56,7 +56,8 @@ clear (p ∷ ps) x = eqb (readAt p x) 0 && clear ps x
 pub ones-fit : (ps : List Place) → T (fit ps (ones ps))
 ones-fit [] = tt
 ones-fit (p ∷ ps) =
-    and-i (ltb (2 ^ p .width - 1) (2 ^ p .width)) (fit ps (ones ps)) (lt→ltb (2 ^ p .width - 1) (2 ^ p .width) (ones-lt (p .width))) (ones-fit ps)
+    and-i (ltb (2 ^ p .width - 1) (2 ^ p .width)) (fit ps (ones ps))
+    (lt→ltb (2 ^ p .width - 1) (2 ^ p .width) (ones-lt (p .width))) (ones-fit ps)
 
 pub reads-fit : (ps : List Place) (w : ℕ) → T (fit ps (reads ps w))
 reads-fit [] w = tt
@@ -104,7 +105,8 @@ sum-lt n (p ∷ ps) (v ∷ vs) d t = go (head n p ps d)
     go (empty e h) rest = subst (λ (x : ℕ). x < 2 ^ n) (sym (skipped p ps v vs t e)) (rest n h)
     go (wide l h) rest =
         lt-of-lt-of-le
-        (subst (λ (x : ℕ). v * 2 ^ p .low + sumAt ps vs < x) (sym (pow-add 2 (p .width) (p .low))) (digits-lt (fit-head p ps v vs t) (rest (p .low) h)))
+        (subst (λ (x : ℕ). v * 2 ^ p .low + sumAt ps vs < x) (sym (pow-add 2 (p .width) (p .low)))
+        (digits-lt (fit-head p ps v vs t) (rest (p .low) h)))
         (pow-mono l)
 
 -- a word under the mask of all the places is the sum of what it has there
@@ -177,24 +179,25 @@ pub record Row (fs : List Field) (ps : List Place) (m b : ℕ) : Type 0 where
   pub whole : m + sumAt ps (ones ps) ≡ 2 ^ 32 - 1
   pub bits-right : T (everyBelow 32 (mask-bit fs m b))
 
-abbrev pub row-right : List Field → List Place → ℕ → ℕ → Bool
+abbrev pub row-right : List Field → List Place → ℕ → ℕ → List Bool
 row-right fs ps m b =
     down 32 ps
-    && (clear ps b && (clear ps m && (ltb b (2 ^ 32) && (eqb (m + sumAt ps (ones ps)) (2 ^ 32 - 1) && everyBelow 32 (mask-bit fs m b)))))
+    ∷ clear ps b
+    ∷ clear ps m
+    ∷ ltb b (2 ^ 32)
+    ∷ eqb (m + sumAt ps (ones ps)) (2 ^ 32 - 1)
+    ∷ everyBelow 32 (mask-bit fs m b)
+    ∷ []
 
-pub row : (fs : List Field) (ps : List Place) (m b : ℕ) → T (row-right fs ps m b) → Row fs ps m b
-row fs ps m b t =
-    let t₁ = and-r (down 32 ps) _ t in
-    let t₂ = and-r (clear ps b) _ t₁ in
-    let t₃ = and-r (clear ps m) _ t₂ in
-    let t₄ = and-r (ltb b (2 ^ 32)) _ t₃ in
+pub row : (fs : List Field) (ps : List Place) (m b : ℕ) → Facts (row-right fs ps m b) → Row fs ps m b
+row fs ps m b (d, (cb, (cm, (s, (w, (r, u)))))) =
     record {
-      descends = and-l (down 32 ps) _ t;
-      base-clear = and-l (clear ps b) _ t₁;
-      mask-clear = and-l (clear ps m) _ t₂;
-      small = ltb→lt b (2 ^ 32) (and-l (ltb b (2 ^ 32)) _ t₃);
-      whole = eqb→eq (m + sumAt ps (ones ps)) (2 ^ 32 - 1) (and-l (eqb (m + sumAt ps (ones ps)) (2 ^ 32 - 1)) _ t₄);
-      bits-right = and-r (eqb (m + sumAt ps (ones ps)) (2 ^ 32 - 1)) _ t₄;
+      descends = d;
+      base-clear = cb;
+      mask-clear = cm;
+      small = ltb→lt b (2 ^ 32) s;
+      whole = eqb→eq (m + sumAt ps (ones ps)) (2 ^ 32 - 1) w;
+      bits-right = r;
     }
 
 bit-to : (o : Bool) (x m b : ℕ) → x < 2 → T (cond o (eqb m 0 && eqb b 0) (eqb m 1)) → min x m ≡ b → T (o || eqb x b)

@@ -1,17 +1,17 @@
 -- What the code's functions read and answer is what the definitions say. Assumes nothing.
-use mathlib.Core.Path.{_≡_, refl, sym, ap, ap₂, _∙_, subst}
-use mathlib.Core.Bool.{Bool, true, false, not, cond, _&&_, _||_}
-use mathlib.Core.List.{List, [], _∷_}
-use Prim.Native.Nat.{ℕ, zero, suc, _+_, _-_, _*_, _/_, _%_, _^_, _≤_, _<_}
+use mathlib.Core.Path.{_≡_, refl, sym, ap, _∙_, subst}
+use mathlib.Core.Bool.{Bool, true, false, not, cond}
+use Prim.Native.Nat.{ℕ, _+_, _*_, _/_, _%_, _^_, _≤_, _<_}
 use native.Mathlib.Nat.{div-one}
 use native.Mathlib.Numerals.{add-one}
 use native.Mathlib.Omega.{arith}
-use lib.Dec.{T, eqb, ltb, leb, ltb→lt, lt→ltb}
-use lib.IntN.{ℤ, pos}
-use lib.ListN.{length, getD}
+use lib.Dec.{eqb, ltb, ltb→lt, lt→ltb}
+use lib.IntN.{ℤ}
+use lib.ListN.{length}
 use borrow.Author.Tests.{eq-eqb, ne-eqb}
-use Rattle.encoding.specs.Classes as C
-use Rattle.encoding.specs.Classes.{Zm, Rm, imm4, xs, Pg, Pc, Rn, Zn, Zt, Zt3, Zt2, Feature, SVE, SME2, SVE2p1, flag, Class, classes, classAt, has, width, read}
+use Rattle.encoding.specs.Classes.{imm4, xs, Zt3, Zt2, Class, classes, classAt, has, width, read}
+use Rattle.encoding.specs.declared.Feature.{Feature}
+use Rattle.encoding.specs.declared.Feature.the-variants.{SVE, SME2, SVE2p1}
 use Rattle.encoding.specs.Decoding.{extensionOf, multipleOf, ztOf, storeAs, storeOf, indexOf, decodeOf}
 use Rattle.encoding.specs.Encoding.{misextends}
 use Rattle.encoding.specs.Layouts.{layoutOf, Bounded}
@@ -20,10 +20,9 @@ use Rattle.encoding.specs.declared.Extension.the-variants.{None, Uxtw, S
 use Rattle.encoding.specs.declared.Layout.{Layout}
 use Rattle.encoding.specs.declared.Store.{Store}
 use Rattle.encoding.specs.declared.Store.the-variants.{Scatter, Strided, Quadword}
-use Rattle.encoding.specs.declared.Decoded.{Decoded}
 use Rattle.encoding.specs.declared.Decoded.the-variants.{Known, Undefined}
 use Rattle.encoding.proofs.Tests.{cond-true, cond-false}
-use Rattle.encoding.proofs.Rows.{flag-inj, number-at, Small, scattered, striding, quad}
+use Rattle.encoding.proofs.Rows.{number-at, Small, scattered, striding, quad}
 
 -- ---- extensions
 
@@ -54,7 +53,7 @@ has-xs c = go (has c xs)
     go false = refl
 
 -- Zt3 and Zt2 are a word's lowest bits
-zt-whole : (c : Class) (w : ℕ) → w % 2 ^ width c (ztOf c) ≡ read c (ztOf c) w
+pub zt-whole : (c : Class) (w : ℕ) → w % 2 ^ width c (ztOf c) ≡ read c (ztOf c) w
 zt-whole c w = go (has c Zt3)
   where
     go : (b : Bool) → w % 2 ^ width c (cond b Zt3 Zt2) ≡ read c (cond b Zt3 Zt2) w
@@ -65,7 +64,8 @@ zt-whole c w = go (has c Zt3)
 
 pub layout-bounded : (c : Class) (l : Layout) → l ≡ layoutOf c → Small c → Bounded l
 layout-bounded c l e s =
-    subst Bounded (sym e) (record { feature = s .feature; nreg = s .nreg; xs = s .xs; rm = s .rm; imm4 = s .imm4; zt = s .zt; step = s .step; size = s .size; scale = s .scale })
+    subst Bounded (sym e)
+    (record { nreg = s .nreg; xs = s .xs; rm = s .rm; imm4 = s .imm4; zt = s .zt; step = s .step; size = s .size; scale = s .scale })
 
 -- ---- stores
 
@@ -85,9 +85,9 @@ module _ (k w : ℕ) (h : k < length classes) where
       q
       ∙ ap (λ (y : Layout). extensionOf (eqb (y .xs) 2) (w / 16384 % y .xs)) g
       ∙ ap (λ (b : Bool). extensionOf b (read c xs w)) (has-xs c) in
-      let zm = sym (s .zm) in
+      let zm = sym (s .first) in
       let pg = sym (s .pg) in
-      let rn = sym (s .rn) in
+      let rn = sym (s .second) in
       let zt = sym (s .zt) in
       let whole = sym (div-one w) in
       (λ i.
@@ -141,9 +141,9 @@ module _ (k w : ℕ) (h : k < length classes) where
   quadword-is f =
       let c = classAt k in
       let s = quad k h f in
-      let rm = sym (s .rm) in
+      let rm = sym (s .first) in
       let pg = sym (s .pg) in
-      let zn = sym (s .zn) in
+      let zn = sym (s .second) in
       let zt = sym (s .zt) in
       let whole = sym (div-one w) in
       (λ i.
@@ -158,10 +158,6 @@ module _ (k w : ℕ) (h : k < length classes) where
       ∙ ap (λ (y : Feature). storeAs y c w) (sym f)
 
 -- ---- decoding
-
--- a class's feature by its flag
-pub featured : (k n : ℕ) (x : Feature) → n ≡ flag (classAt k .feature) → n ≡ flag x → classAt k .feature ≡ x
-featured k n x e f = flag-inj (classAt k .feature) x (sym e ∙ f)
 
 module _ (w k : ℕ) (e : k ≡ indexOf w) where
   pub undefined : length classes ≤ k → Undefined ≡ decodeOf w

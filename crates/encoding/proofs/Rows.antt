@@ -2,7 +2,7 @@
 use mathlib.Core.Path.{_≡_, refl, sym, ap, _∙_, subst}
 use mathlib.Core.Bool.{Bool, true, false, not, cond, _&&_, _||_}
 use mathlib.Core.List.{List, [], _∷_, map}
-use Prim.Native.Nat.{ℕ, zero, suc, _/_, _^_, _≤_, _<_}
+use Prim.Native.Nat.{ℕ, zero, suc, _/_, _%_, _^_, _≤_, _<_}
 use native.Mathlib.Nat.{not-suc-le-zero, le-of-suc-le-suc}
 use native.Mathlib.Omega.{arith}
 use lib.Bits.{bitAnd}
@@ -11,11 +11,14 @@ use lib.Ieee.Fits.{and-i, and-l, and-r}
 use lib.ListN.{length, getD, List·getD-eq-default}
 use borrow.Author.Tests.{eq-eqb}
 use Rattle.encoding.specs.Classes as C
-use Rattle.encoding.specs.Classes.{Field, Zm, Rm, imm4, xs, Pg, Pc, Rn, Zn, Zt, low, Feature, SVE, SME2, SVE2p1, flag, Class, class, noClass, classes, classAt, position, any, everyBelow, bit, inside, belongs, maskBelow, maskOf, has, width}
+use Rattle.encoding.specs.Classes.{Field, Zm, Rm, imm4, xs, Pg, Pc, Rn, Zn, Zt, low, flag, Class, noClass, classes}
+use Rattle.encoding.specs.Classes.{classAt, any, everyBelow, bit, inside, belongs, maskBelow, maskOf, has, width}
+use Rattle.encoding.specs.declared.Feature.{Feature}
+use Rattle.encoding.specs.declared.Feature.the-variants.{SVE, SME2, SVE2p1}
 use Rattle.encoding.specs.Decoding.{ztOf, indexOf}
-use Rattle.encoding.specs.Encoding.{featureNumbered, rowOf}
-use Rattle.encoding.specs.Layouts.{digitAt, packedOf}
-use Rattle.encoding.proofs.Tests.{every, every-at, below-at, below-all, holds}
+use Rattle.encoding.specs.Encoding.{lowest, rowOf, rowNumbered, classNumbered}
+use Rattle.encoding.specs.Layouts.{digitAt, packedOf, featureFrom}
+use Rattle.encoding.proofs.Tests.{absurdly, all, Facts, facts, cond-false, every, every-at, below-at, below-all, holds}
 use Rattle.encoding.proofs.Search.{position-none, position-only, position-holds}
 use Rattle.encoding.proofs.Places.{Place, row-right, Row, row, mask-member, member-mask}
 
@@ -31,7 +34,7 @@ placesAs SME2 c = at c Rm ∷ at c imm4 ∷ at c Pc ∷ at c Rn ∷ at c C.T ∷
 placesAs SVE2p1 c = at c Rm ∷ at c Pg ∷ at c Zn ∷ at c Zt ∷ []
 
 sound : Class → Bool
-sound c = row-right (c .fields) (placesAs (c .feature) c) (maskOf c) (c .base)
+sound c = all (row-right (c .fields) (placesAs (c .feature) c) (maskOf c) (c .base))
 
 all-sound : T (every sound classes)
 unfolding every sound classes any inside has everyBelow maskBelow maskOf
@@ -41,8 +44,10 @@ module _ (k : ℕ) (h : k < length classes) where
   pub row-at : Row (classAt k .fields) (placesAs (classAt k .feature) (classAt k)) (maskOf (classAt k)) (classAt k .base)
   unfolding sound classAt
   row-at =
-      row (classAt k .fields) (placesAs (classAt k .feature) (classAt k)) (maskOf (classAt k)) (classAt k .base)
-      (every-at sound classes noClass all-sound k h)
+      let c = classAt k in
+      let ps = placesAs (c .feature) c in
+      row (c .fields) ps (maskOf c) (c .base)
+      (facts (row-right (c .fields) ps (maskOf c) (c .base)) (every-at sound classes noClass all-sound k h))
 
   -- the mask test is membership
   pub masked : (w : ℕ) → bitAnd w (maskOf (classAt k)) ≡ classAt k .base → T (belongs (classAt k) w)
@@ -68,71 +73,93 @@ pub number-at : (k : ℕ) → k < length classes → classAt k .number ≡ suc k
 unfolding numbered
 number-at k h = eqb→eq (classAt k .number) (suc k) (below-at (length classes) numbered all-numbered k h)
 
--- ---- the search for a store's class
+-- ---- the search for a class by its number
 
 pub flag-inj : (x y : Feature) → flag x ≡ flag y → x ≡ y
 flag-inj SVE SVE e = refl
-flag-inj SVE SME2 e = absurd (omega arith)
-flag-inj SVE SVE2p1 e = absurd (omega arith)
-flag-inj SME2 SVE e = absurd (omega arith)
+flag-inj SVE SME2 e = absurdly e
+flag-inj SVE SVE2p1 e = absurd (omega (arith, e))
+flag-inj SME2 SVE e = absurdly (sym e)
 flag-inj SME2 SME2 e = refl
-flag-inj SME2 SVE2p1 e = absurd (omega arith)
-flag-inj SVE2p1 SVE e = absurd (omega arith)
-flag-inj SVE2p1 SME2 e = absurd (omega arith)
+flag-inj SME2 SVE2p1 e = absurd (omega (arith, e))
+flag-inj SVE2p1 SVE e = absurd (omega (arith, e))
+flag-inj SVE2p1 SME2 e = absurd (omega (arith, e))
 flag-inj SVE2p1 SVE2p1 e = refl
 
-abbrev named : ℕ → ℕ → Class → Bool
-named n x c = eqb (c .number) n && eqb (flag (c .feature)) x
+-- a feature by a digit, and by its own flag
+pub from-0 : (n : ℕ) → n ≡ 0 → SVE ≡ featureFrom n
+from-0 n e = sym (ap featureFrom e)
 
-named-is : (n x k : ℕ) → k < length classes → T (named n x (classAt k)) → (suc k ≡ n) × (flag (classAt k .feature) ≡ x)
-named-is n x k h t = (
-  sym (number-at k h) ∙ eqb→eq (classAt k .number) n (and-l (eqb (classAt k .number) n) (eqb (flag (classAt k .feature)) x) t),
-  eqb→eq (flag (classAt k .feature)) x (and-r (eqb (classAt k .number) n) (eqb (flag (classAt k .feature)) x) t),
-)
+pub from-1 : (n : ℕ) → n ≡ 1 → SME2 ≡ featureFrom n
+from-1 n e = sym (ap featureFrom e)
 
-pub row-found : (n x k : ℕ) → k < length classes → suc k ≡ n → flag (classAt k .feature) ≡ x → rowOf n x ≡ k
+pub from-other : (n : ℕ) → (n ≡ 0 → ⊥) → (n ≡ 1 → ⊥) → SVE2p1 ≡ featureFrom n
+from-other n f g =
+    sym (cond-false (eqb n 0) _ _ (λ t. f (eqb→eq n 0 t)) ∙ cond-false (eqb n 1) SME2 SVE2p1 (λ t. g (eqb→eq n 1 t)))
+
+pub from-flag : (x : Feature) → featureFrom (flag x) ≡ x
+from-flag SVE = refl
+from-flag SME2 = refl
+from-flag SVE2p1 = refl
+
+pub numbered-found : (n k : ℕ) → k < length classes → suc k ≡ n → rowNumbered n ≡ k
+unfolding rowNumbered classAt
+numbered-found n k h e =
+    position-only (λ c. eqb (c .number) n) noClass classes k h (holds (eq-eqb (classAt k .number) n (number-at k h ∙ e)))
+    (λ j l t. let q = sym (number-at j l) ∙ eqb→eq (classAt j .number) n t in omega arith)
+
+pub numbered-none : (n : ℕ) → ((k : ℕ) → k < length classes → suc k ≡ n → ⊥) → rowNumbered n ≡ length classes
+unfolding rowNumbered classAt
+numbered-none n f =
+    position-none (λ c. eqb (c .number) n) noClass classes (λ k h t. f k h (sym (number-at k h) ∙ eqb→eq (classAt k .number) n t))
+
+pub numbered-is : (n : ℕ) → rowNumbered n < length classes → suc (rowNumbered n) ≡ n
+unfolding rowNumbered classAt
+numbered-is n h =
+    sym (number-at (rowNumbered n) h) ∙ eqb→eq (classNumbered n .number) n (position-holds (λ c. eqb (c .number) n) noClass classes h)
+
+-- a class that isn't in the list has the feature of `noClass`
+pub unlisted : (k : ℕ) → length classes ≤ k → classAt k .feature ≡ SVE
+unfolding classAt
+unlisted k h = ap (λ (c : Class). c .feature) (List·getD-eq-default classes noClass h)
+
+-- ---- and by its feature too
+
+abbrev named : ℕ → Feature → Class → Bool
+named n x c = eqb (c .number) n && eqb (flag (c .feature)) (flag x)
+
+named-is : (n : ℕ) (x : Feature) (k : ℕ) → k < length classes → T (named n x (classAt k)) → (suc k ≡ n) × (classAt k .feature ≡ x)
+named-is n x k h t =
+    let a = eqb (classAt k .number) n in
+    let b = eqb (flag (classAt k .feature)) (flag x) in (
+      sym (number-at k h) ∙ eqb→eq (classAt k .number) n (and-l a b t),
+      flag-inj (classAt k .feature) x (eqb→eq (flag (classAt k .feature)) (flag x) (and-r a b t)),
+    )
+
+pub row-found : (n : ℕ) (x : Feature) (k : ℕ) → k < length classes → suc k ≡ n → classAt k .feature ≡ x → rowOf n x ≡ k
 unfolding rowOf classAt
 row-found n x k h e f =
     position-only (named n x) noClass classes k h
-    (and-i (eqb (classAt k .number) n) (eqb (flag (classAt k .feature)) x)
-    (holds (eq-eqb (classAt k .number) n (number-at k h ∙ e))) (holds (eq-eqb (flag (classAt k .feature)) x f)))
+    (and-i (eqb (classAt k .number) n) (eqb (flag (classAt k .feature)) (flag x))
+    (holds (eq-eqb (classAt k .number) n (number-at k h ∙ e))) (holds (eq-eqb (flag (classAt k .feature)) (flag x) (ap flag f))))
     (λ j l t. let q = named-is n x j l t in omega (arith, q .0))
 
-pub row-none : (n x : ℕ) → ((k : ℕ) → k < length classes → suc k ≡ n → flag (classAt k .feature) ≡ x → ⊥) → rowOf n x ≡ length classes
+pub row-none : (n : ℕ) (x : Feature) → ((k : ℕ) → k < length classes → suc k ≡ n → classAt k .feature ≡ x → ⊥)
+    → rowOf n x ≡ length classes
 unfolding rowOf classAt
 row-none n x f = position-none (named n x) noClass classes (λ k h t. let q = named-is n x k h t in f k h (q .0) (q .1))
 
--- the class found has the number, and needs the flag
-pub row-number : (n x : ℕ) → rowOf n x < length classes → suc (rowOf n x) ≡ n
+-- the class found has the number and the feature
+pub row-holds : (n : ℕ) (x : Feature) → rowOf n x < length classes → (suc (rowOf n x) ≡ n) × (classAt (rowOf n x) .feature ≡ x)
 unfolding rowOf classAt
-row-number n x h = named-is n x (rowOf n x) h (position-holds (named n x) noClass classes h) .0
+row-holds n x h = named-is n x (rowOf n x) h (position-holds (named n x) noClass classes h)
 
--- and the feature whose flag it is
-pub row-holds : (n : ℕ) (x : Feature) → rowOf n (flag x) < length classes
-    → (suc (rowOf n (flag x)) ≡ n) × (classAt (rowOf n (flag x)) .feature ≡ x)
-unfolding rowOf classAt
-row-holds n x h =
-    let q = named-is n (flag x) (rowOf n (flag x)) h (position-holds (named n (flag x)) noClass classes h) in
-    (q .0, flag-inj (classAt (rowOf n (flag x)) .feature) x (q .1))
+-- and is the one of that number
+pub row-numbered : (n : ℕ) (x : Feature) → rowOf n x < length classes → rowNumbered n ≡ rowOf n x
+row-numbered n x h = numbered-found n (rowOf n x) h (row-holds n x h .0)
 
-pub found-feature : (n k : ℕ) (x : Feature) → k ≡ rowOf n (flag x) → k < length classes → classAt k .feature ≡ x
+pub found-feature : (n k : ℕ) (x : Feature) → k ≡ rowOf n x → k < length classes → classAt k .feature ≡ x
 found-feature n k x e h = ap (λ (j : ℕ). classAt j .feature) e ∙ row-holds n x (subst (λ (j : ℕ). j < length classes) e h) .1
-
--- ---- a class's feature by its number
-
-pub numbered-found : (n k : ℕ) → k < length classes → suc k ≡ n → featureNumbered n ≡ classAt k .feature
-unfolding featureNumbered classAt
-numbered-found n k h e =
-    ap (λ (j : ℕ). classAt j .feature)
-    (position-only (λ c. eqb (c .number) n) noClass classes k h (holds (eq-eqb (classAt k .number) n (number-at k h ∙ e)))
-    (λ j l t. let q = sym (number-at j l) ∙ eqb→eq (classAt j .number) n t in omega arith))
-
-pub numbered-none : (n : ℕ) → ((k : ℕ) → k < length classes → suc k ≡ n → ⊥) → featureNumbered n ≡ SVE
-unfolding featureNumbered classAt
-numbered-none n f =
-    ap (λ (j : ℕ). classAt j .feature)
-    (position-none (λ c. eqb (c .number) n) noClass classes (λ k h t. f k h (sym (number-at k h) ∙ eqb→eq (classAt k .number) n t)))
-    ∙ ap (λ (c : Class). c .feature) (List·getD-eq-default classes noClass (omega arith))
 
 -- ---- the code's tables are columns of the table of classes
 
@@ -161,56 +188,67 @@ passes k w h e = masked k h w (subst (λ (r : List ℕ). bitAnd w (getD r 0 0) �
 pub member : (k w : ℕ) → k < length classes → w < 2 ^ 32 → T (belongs (classAt k) w) → Passes k w
 member k w h l t = subst (λ (r : List ℕ). bitAnd w (getD r 0 0) ≡ getD r 1 0) (sym (column-at row-of [] k h)) (unmasked k h w l t)
 
--- the classes' flags are the digits of a number
-unfoldable pub flagsAre : ℕ → Bool
-flagsAre x = everyBelow (length classes) (λ k. eqb (digitAt x k) (flag (classAt k .feature)))
-
-pub flag-at : (k : ℕ) → k < length classes → (x r : ℕ) → r ≡ digitAt x k → T (flagsAre x) → r ≡ flag (classAt k .feature)
-unfolding flagsAre
-flag-at k h x r e t =
-    e ∙ eqb→eq (digitAt x k) (flag (classAt k .feature)) (below-at (length classes) (λ i. eqb (digitAt x i) (flag (classAt i .feature))) t k h)
+-- two numbers of each class
+all-equal : (f g : Class → ℕ) → T (every (λ c. eqb (f c) (g c)) classes) → (k : ℕ) → k < length classes → f (classAt k) ≡ g (classAt k)
+unfolding classAt
+all-equal f g t k h = eqb→eq (f (classAt k)) (g (classAt k)) (every-at (λ c. eqb (f c) (g c)) classes noClass t k h)
 
 -- what a digit of the classes' numbers stands for
 unfoldable pub digitsAre : (ℕ → ℕ) → (Class → ℕ) → ℕ → Bool
 digitsAre g f j = every (λ c. eqb (g (digitAt (packedOf c) j)) (f c)) classes
 
-pub digit-at : (k : ℕ) → k < length classes → (n : ℕ) → n ≡ packedOf (classAt k) → (g : ℕ → ℕ) (f : Class → ℕ) (j r : ℕ) → r ≡ g (digitAt n j)
-    → T (digitsAre g f j) → r ≡ f (classAt k)
-unfolding digitsAre classAt
-digit-at k h n q g f j r e t =
-    e
-    ∙ ap (λ (x : ℕ). g (digitAt x j)) q
-    ∙ eqb→eq (g (digitAt (packedOf (classAt k)) j)) (f (classAt k)) (every-at (λ c. eqb (g (digitAt (packedOf c) j)) (f c)) classes noClass t k h)
+pub digit-at : (k : ℕ) → k < length classes → (n : ℕ) → n ≡ packedOf (classAt k) → (g : ℕ → ℕ) (f : Class → ℕ) (j r : ℕ)
+    → r ≡ g (digitAt n j) → T (digitsAre g f j) → r ≡ f (classAt k)
+unfolding digitsAre
+digit-at k h n q g f j r e t = e ∙ ap (λ (x : ℕ). g (digitAt x j)) q ∙ all-equal (λ c. g (digitAt (packedOf c) j)) f t k h
+
+-- the last two digits are the class's number
+numbers-last : T (every (λ c. eqb (packedOf c % 256) (c .number)) classes)
+unfolding every classes packedOf any has lowest
+numbers-last = tt
+
+pub packed-number : (k : ℕ) → k < length classes → packedOf (classAt k) % 256 ≡ suc k
+packed-number k h = all-equal (λ c. packedOf c % 256) (λ c. c .number) numbers-last k h ∙ number-at k h
 
 -- ---- how large a class's numbers are, and which fields all classes of a feature have
 
 abbrev within : ℕ → ℕ → ℕ → Bool
 within l n x = leb l x && leb x n
 
-abbrev small : Class → Bool
+abbrev small : Class → List Bool
 small c =
-    ltb (flag (c .feature)) 3
-    && (leb (c .nreg) 4
-    && (within 1 2 (2 ^ width c xs)
-    && (within 1 32 (2 ^ width c Rm)
-    && (within 1 16 (2 ^ width c imm4)
-    && (within 1 8 (2 ^ width c (ztOf c))
-    && (within 1 16 (c .esize / 8) && (within 1 (c .esize / 8) (c .msize / 8) && (ltb (c .scale) 4 && leb (c .base) 0xF0000000))))))))
+    leb (c .nreg) 4
+    ∷ within 1 2 (2 ^ width c xs)
+    ∷ within 1 32 (2 ^ width c Rm)
+    ∷ within 1 16 (2 ^ width c imm4)
+    ∷ within 1 8 (2 ^ width c (ztOf c))
+    ∷ within 1 16 (c .esize / 8)
+    ∷ within 1 (c .esize / 8) (c .msize / 8)
+    ∷ ltb (c .scale) 4
+    ∷ leb (c .base) 0xF0000000
+    ∷ []
 
-formedAs : Feature → Class → Bool
-formedAs SVE c = eqb (width c Zm) 5 && (eqb (width c Pg) 3 && (eqb (width c Rn) 5 && eqb (width c Zt) 5))
-formedAs SME2 c = eqb (width c Pc) 3 && (eqb (width c Rn) 5 && (eqb (width c C.T) 1 && ltb 0 (c .nreg)))
-formedAs SVE2p1 c = eqb (width c Rm) 5 && (eqb (width c Pg) 3 && (eqb (width c Zn) 5 && eqb (width c Zt) 5))
+-- a scatter or quadword class has offsets, predicate, base or index, and data
+abbrev vector : Field → Field → Class → List Bool
+vector f g c = eqb (width c f) 5 ∷ eqb (width c Pg) 3 ∷ eqb (width c g) 5 ∷ eqb (width c Zt) 5 ∷ []
 
-formed : Class → Bool
-formed c = small c && formedAs (c .feature) c
+abbrev strided : Class → List Bool
+strided c = eqb (width c Pc) 3 ∷ eqb (width c Rn) 5 ∷ eqb (width c C.T) 1 ∷ ltb 0 (c .nreg) ∷ []
 
-all-formed : T (every formed classes)
-unfolding every formed formedAs classes any has
+abbrev formedAs : Feature → Class → List Bool
+formedAs SVE c = vector Zm Rn c
+formedAs SME2 c = strided c
+formedAs SVE2p1 c = vector Rm Zn c
+
+all-small : T (every (λ c. all (small c)) classes)
+unfolding every classes any has
+all-small = tt
+
+all-formed : T (every (λ c. all (formedAs (c .feature) c)) classes)
+unfolding every classes any has
 all-formed = tt
 
 pub record Small (c : Class) : Type 0 where
-  pub feature : flag (c .feature) < 3
   pub nreg : c .nreg ≤ 4
   pub xs : (1 ≤ 2 ^ width c xs) × (2 ^ width c xs ≤ 2)
   pub rm : (1 ≤ 2 ^ width c Rm) × (2 ^ width c Rm ≤ 32)
@@ -224,34 +262,35 @@ pub record Small (c : Class) : Type 0 where
 within-is : (l n x : ℕ) → T (within l n x) → (l ≤ x) × (x ≤ n)
 within-is l n x t = (leb→le l x (and-l (leb l x) (leb x n) t), leb→le x n (and-r (leb l x) (leb x n) t))
 
-smallness : (c : Class) → T (small c) → Small c
-smallness c t =
-    let t₁ = and-r (ltb (flag (c .feature)) 3) _ t in
-    let t₂ = and-r (leb (c .nreg) 4) _ t₁ in
-    let t₃ = and-r (within 1 2 (2 ^ width c xs)) _ t₂ in
-    let t₄ = and-r (within 1 32 (2 ^ width c Rm)) _ t₃ in
-    let t₅ = and-r (within 1 16 (2 ^ width c imm4)) _ t₄ in
-    let t₆ = and-r (within 1 8 (2 ^ width c (ztOf c))) _ t₅ in
-    let t₇ = and-r (within 1 16 (c .esize / 8)) _ t₆ in
-    let t₈ = and-r (within 1 (c .esize / 8) (c .msize / 8)) _ t₇ in
+smallness : (c : Class) → Facts (small c) → Small c
+smallness c (nreg, (x, (rm, (imm, (zt, (step, (size, (scale, (base, u))))))))) =
     record {
-      feature = ltb→lt (flag (c .feature)) 3 (and-l (ltb (flag (c .feature)) 3) _ t);
-      nreg = leb→le (c .nreg) 4 (and-l (leb (c .nreg) 4) _ t₁);
-      xs = within-is 1 2 (2 ^ width c xs) (and-l (within 1 2 (2 ^ width c xs)) _ t₂);
-      rm = within-is 1 32 (2 ^ width c Rm) (and-l (within 1 32 (2 ^ width c Rm)) _ t₃);
-      imm4 = within-is 1 16 (2 ^ width c imm4) (and-l (within 1 16 (2 ^ width c imm4)) _ t₄);
-      zt = within-is 1 8 (2 ^ width c (ztOf c)) (and-l (within 1 8 (2 ^ width c (ztOf c))) _ t₅);
-      step = within-is 1 16 (c .esize / 8) (and-l (within 1 16 (c .esize / 8)) _ t₆);
-      size = within-is 1 (c .esize / 8) (c .msize / 8) (and-l (within 1 (c .esize / 8) (c .msize / 8)) _ t₇);
-      scale = ltb→lt (c .scale) 4 (and-l (ltb (c .scale) 4) _ t₈);
-      base = leb→le (c .base) 0xF0000000 (and-r (ltb (c .scale) 4) _ t₈);
+      nreg = leb→le (c .nreg) 4 nreg;
+      xs = within-is 1 2 (2 ^ width c xs) x;
+      rm = within-is 1 32 (2 ^ width c Rm) rm;
+      imm4 = within-is 1 16 (2 ^ width c imm4) imm;
+      zt = within-is 1 8 (2 ^ width c (ztOf c)) zt;
+      step = within-is 1 16 (c .esize / 8) step;
+      size = within-is 1 (c .esize / 8) (c .msize / 8) size;
+      scale = ltb→lt (c .scale) 4 scale;
+      base = leb→le (c .base) 0xF0000000 base;
     }
 
-pub record Scattered (c : Class) : Type 0 where
-  pub zm : width c Zm ≡ 5
+-- f and g are the fields beside Pg and Zt
+pub record Vector (c : Class) (f g : Field) : Type 0 where
+  pub first : width c f ≡ 5
   pub pg : width c Pg ≡ 3
-  pub rn : width c Rn ≡ 5
+  pub second : width c g ≡ 5
   pub zt : width c Zt ≡ 5
+
+vectored : (c : Class) (f g : Field) → Facts (vector f g c) → Vector c f g
+vectored c f g (first, (pg, (second, (zt, u)))) =
+    record {
+      first = eqb→eq (width c f) 5 first;
+      pg = eqb→eq (width c Pg) 3 pg;
+      second = eqb→eq (width c g) 5 second;
+      zt = eqb→eq (width c Zt) 5 zt;
+    }
 
 pub record Striding (c : Class) : Type 0 where
   pub pc : width c Pc ≡ 3
@@ -259,68 +298,35 @@ pub record Striding (c : Class) : Type 0 where
   pub t : width c C.T ≡ 1
   pub nreg : 0 < c .nreg
 
-pub record Quad (c : Class) : Type 0 where
-  pub rm : width c Rm ≡ 5
-  pub pg : width c Pg ≡ 3
-  pub zn : width c Zn ≡ 5
-  pub zt : width c Zt ≡ 5
-
-four : (a b c d : Bool) → T (a && (b && (c && d))) → T a × T b × T c × T d
-four a b c d t =
-    let t₁ = and-r a (b && (c && d)) t in
-    let t₂ = and-r b (c && d) t₁ in
-    (and-l a (b && (c && d)) t, and-l b (c && d) t₁, and-l c d t₂, and-r c d t₂)
+strides : (c : Class) → Facts (strided c) → Striding c
+strides c (pc, (rn, (t, (nreg, u)))) =
+    record {
+      pc = eqb→eq (width c Pc) 3 pc;
+      rn = eqb→eq (width c Rn) 5 rn;
+      t = eqb→eq (width c C.T) 1 t;
+      nreg = ltb→lt 0 (c .nreg) nreg;
+    }
 
 module _ (k : ℕ) (h : k < length classes) where
-  formed-at : T (formed (classAt k))
-  unfolding classAt
-  formed-at = every-at formed classes noClass all-formed k h
-
   pub small-at : Small (classAt k)
-  unfolding formed
-  small-at = smallness (classAt k) (and-l (small (classAt k)) (formedAs (classAt k .feature) (classAt k)) formed-at)
+  unfolding classAt
+  small-at = smallness (classAt k) (facts (small (classAt k)) (every-at (λ c. all (small c)) classes noClass all-small k h))
 
-  formed-as : (x : Feature) → classAt k .feature ≡ x → T (formedAs x (classAt k))
-  unfolding formed
+  formed-as : (x : Feature) → classAt k .feature ≡ x → Facts (formedAs x (classAt k))
+  unfolding classAt
   formed-as x e =
-      subst (λ (y : Feature). T (formedAs y (classAt k))) e
-      (and-r (small (classAt k)) (formedAs (classAt k .feature) (classAt k)) formed-at)
+      facts (formedAs x (classAt k))
+      (subst (λ (y : Feature). T (all (formedAs y (classAt k)))) e
+      (every-at (λ c. all (formedAs (c .feature) c)) classes noClass all-formed k h))
 
-  pub scattered : classAt k .feature ≡ SVE → Scattered (classAt k)
-  unfolding formedAs
-  scattered e =
-      let c = classAt k in
-      let f = four (eqb (width c Zm) 5) (eqb (width c Pg) 3) (eqb (width c Rn) 5) (eqb (width c Zt) 5) (formed-as SVE e) in
-      record {
-        zm = eqb→eq (width c Zm) 5 (f .0);
-        pg = eqb→eq (width c Pg) 3 (f .1);
-        rn = eqb→eq (width c Rn) 5 (f .2);
-        zt = eqb→eq (width c Zt) 5 (f .3);
-      }
+  pub scattered : classAt k .feature ≡ SVE → Vector (classAt k) Zm Rn
+  scattered e = vectored (classAt k) Zm Rn (formed-as SVE e)
 
   pub striding : classAt k .feature ≡ SME2 → Striding (classAt k)
-  unfolding formedAs
-  striding e =
-      let c = classAt k in
-      let f = four (eqb (width c Pc) 3) (eqb (width c Rn) 5) (eqb (width c C.T) 1) (ltb 0 (c .nreg)) (formed-as SME2 e) in
-      record {
-        pc = eqb→eq (width c Pc) 3 (f .0);
-        rn = eqb→eq (width c Rn) 5 (f .1);
-        t = eqb→eq (width c C.T) 1 (f .2);
-        nreg = ltb→lt 0 (c .nreg) (f .3);
-      }
+  striding e = strides (classAt k) (formed-as SME2 e)
 
-  pub quad : classAt k .feature ≡ SVE2p1 → Quad (classAt k)
-  unfolding formedAs
-  quad e =
-      let c = classAt k in
-      let f = four (eqb (width c Rm) 5) (eqb (width c Pg) 3) (eqb (width c Zn) 5) (eqb (width c Zt) 5) (formed-as SVE2p1 e) in
-      record {
-        rm = eqb→eq (width c Rm) 5 (f .0);
-        pg = eqb→eq (width c Pg) 3 (f .1);
-        zn = eqb→eq (width c Zn) 5 (f .2);
-        zt = eqb→eq (width c Zt) 5 (f .3);
-      }
+  pub quad : classAt k .feature ≡ SVE2p1 → Vector (classAt k) Rm Zn
+  quad e = vectored (classAt k) Rm Zn (formed-as SVE2p1 e)
 
 -- ---- no word belongs to two classes
 

@@ -3,7 +3,7 @@ use mathlib.Core.Path.{_≡_, refl, sym, ap, _∙_, subst}
 use mathlib.Core.Bool.{Bool, true, false, cond}
 use mathlib.Core.List.{List, [], _∷_}
 use mathlib.Core.Logic.{⊎-elim}
-use Prim.Native.Nat.{ℕ, zero, suc, _≤_, _<_}
+use Prim.Native.Nat.{ℕ, zero, suc, _<_}
 use native.Mathlib.Nat.{not-suc-le-zero, le-of-suc-le-suc, eq-or-lt-of-le, zero-lt-suc}
 use native.Mathlib.Omega.{arith}
 use lib.Dec.{T, ltb, ltb→lt, lt→ltb}
@@ -32,8 +32,8 @@ module _ (p : Class → Bool) (d : Class) where
       ∙ ap suc (position-at cs k (le-of-suc-le-suc h) t (λ j l. f (suc j) (omega arith)))
 
   -- where one class alone passes
-  pub position-only : (cs : List Class) (k : ℕ) → k < length cs → T (p (getD cs k d)) → ((j : ℕ) → j < length cs → T (p (getD cs j d)) → j ≡ k)
-      → position p cs ≡ k
+  pub position-only : (cs : List Class) (k : ℕ) → k < length cs → T (p (getD cs k d))
+      → ((j : ℕ) → j < length cs → T (p (getD cs j d)) → j ≡ k) → position p cs ≡ k
   position-only cs k h t f = position-at cs k h t (λ j l u. let e = f j (omega arith) u in omega arith)
 
   pub position-holds : (cs : List Class) → position p cs < length cs → T (p (getD cs (position p cs) d))
@@ -41,8 +41,8 @@ module _ (p : Class → Bool) (d : Class) where
   position-holds [] h = absurd (not-suc-le-zero h)
   position-holds (c ∷ cs) h = go (p c) refl (λ l. position-holds cs l) h
     where
-      go : (b : Bool) → p c ≡ b → (position p cs < length cs → T (p (getD cs (position p cs) d))) → cond b 0 (suc (position p cs)) < suc (length cs)
-          → T (p (getD (c ∷ cs) (cond b 0 (suc (position p cs))) d))
+      go : (b : Bool) → p c ≡ b → (position p cs < length cs → T (p (getD cs (position p cs) d)))
+          → cond b 0 (suc (position p cs)) < suc (length cs) → T (p (getD (c ∷ cs) (cond b 0 (suc (position p cs))) d))
       go true e rest l = subst T (sym e) tt
       go false e rest l = rest (le-of-suc-le-suc l)
 

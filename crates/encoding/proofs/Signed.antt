@@ -1,16 +1,17 @@
--- Signed numbers: imm4's multiples, and the bits of a small number and its negation. Assumes nothing.
+-- Signed numbers: imm4's multiples, the bits of a small number and its negation, and of any number by its sign. Assumes nothing.
 use mathlib.Core.Path.{_≡_, refl, sym, ap, _∙_, subst}
-use mathlib.Core.Bool.{Bool, true, false, cond}
+use mathlib.Core.Bool.{Bool, true, false, true≢false, false≢true}
 use Prim.Native.Nat.{ℕ, zero, suc, _-_, _*_, _/_, _^_, _≤_, _<_}
-use native.Mathlib.Nat.{mul-div-cancel, not-suc-le-zero, one-mul, mul-le-mul-right, lt-of-lt-of-le}
+use native.Mathlib.Nat.{mul-div-cancel, not-suc-le-zero, one-mul, mul-le-mul-left, mul-le-mul-right, lt-of-lt-of-le}
 use native.Mathlib.Omega.{arith}
-use lib.Dec.{T, eqb, ltb, eqb→eq, eqb-refl, lt→ltb, ltb→lt}
-use lib.IntN.{ℤ, pos, negsuc, negℤ, _-ℤ_, _*ℤ_, +ℤ-idl}
+use lib.Dec.{T, ltb, eqb→eq, eqb-refl, lt→ltb, ltb→lt, leb·zero}
+use lib.IntN.{ℤ, pos, negsuc, negℤ, natAbs, _-ℤ_, _*ℤ_, +ℤ-idl}
+use lib.Signed.{leZ, nonNeg}
 use mir.Syntax.{w64}
-use mir.Val.{SFits, toZ, ofZ}
+use mir.Val.{SFits, Fits, toZ, ofZ}
 use mir.ValLaws.{toZ-pos, toZ-ofZ}
-use Rattle.encoding.specs.Decoding.{signed4, multipleOf}
-use Rattle.encoding.specs.Encoding.{eqℤ, lowest, immOf}
+use Rattle.encoding.specs.Decoding.{multipleOf}
+use Rattle.encoding.specs.Encoding.{eqℤ, immOf}
 use Rattle.encoding.proofs.Tests.{cond-true, cond-false}
 use Rattle.encoding.proofs.Search.{lowest-only, lowest-holds}
 
@@ -50,7 +51,7 @@ unfolding back
 back-neg m zero h = absurd (not-suc-le-zero h)
 back-neg m (suc n) h = refl
 
-mul-pos : (a b : ℕ) → 0 < a → 0 < b → 0 < a * b
+pub mul-pos : (a b : ℕ) → 0 < a → 0 < b → 0 < a * b
 mul-pos a b ha hb = lt-of-lt-of-le hb (subst (λ (x : ℕ). x ≤ a * b) (one-mul b) (mul-le-mul-right b ha))
 
 module _ (m : ℕ) (hm : 0 < m) where
@@ -95,6 +96,18 @@ neg-small : (n : ℕ) → n < 2 ^ 63 → SFits w64 (negℤ (pos n))
 neg-small zero h = record { sfits = omega arith }
 neg-small (suc n) h = record { sfits = omega arith }
 
+-- a multiple has 64 bits
+pub multiple-fits : (m v : ℕ) → m ≤ 4 → v < 16 → SFits w64 (multipleOf m v)
+multiple-fits m v hm hv = go (ltb v 8) refl
+  where
+    go : (b : Bool) → ltb v 8 ≡ b → SFits w64 (multipleOf m v)
+    go true e =
+        subst (SFits w64) (sym (multiple-low m v (ltb→lt v 8 (subst T (sym e) tt))))
+        (record { sfits = omega (arith, mul-le-mul-left v hm) })
+    go false e =
+        subst (SFits w64) (sym (multiple-high m v (borrow.Author.Tests.ltb-false v 8 e) hv))
+        (neg-small ((16 - v) * m) (omega (arith, mul-le-mul-left (16 - v) hm)))
+
 module _ (n : ℕ) (h : n < 2 ^ 63) where
   pub neg-fits : SFits w64 (pos 0 -ℤ toZ w64 n)
   neg-fits = subst (SFits w64) (sym (negated n h)) (neg-small n h)
@@ -105,3 +118,55 @@ module _ (n : ℕ) (h : n < 2 ^ 63) where
 -- numbers with the same bits are equal
 pub same-bits : (a b : ℤ) → SFits w64 a → SFits w64 b → ofZ w64 a ≡ ofZ w64 b → a ≡ b
 same-bits a b ha hb e = sym (toZ-ofZ w64 a ha) ∙ ap (toZ w64) e ∙ toZ-ofZ w64 b hb
+
+-- ---- the 64 bits of a number that is not negative
+
+module _ (z : ℤ) (f : SFits w64 z) (h : leZ (pos 0) (toZ w64 (ofZ w64 z)) ≡ true) where
+  same : toZ w64 (ofZ w64 z) ≡ z
+  same = toZ-ofZ w64 z f
+
+  at-least : leZ (pos 0) z ≡ true
+  at-least = ap (leZ (pos 0)) (sym same) ∙ h
+
+  plain : (y : ℤ) → SFits w64 y → leZ (pos 0) y ≡ true → T (nonNeg y) × Fits w64 (natAbs y) × (natAbs y ≡ ofZ w64 y)
+  plain (pos n) g e = (tt, record { fits = omega (arith, g .sfits) }, refl)
+  plain (negsuc n) g e = absurd (false≢true e)
+
+  pub unsigned-fits : T (nonNeg (toZ w64 (ofZ w64 z))) × Fits w64 (natAbs (toZ w64 (ofZ w64 z)))
+  unsigned-fits =
+      let p = plain z f at-least in
+      subst (λ (y : ℤ). T (nonNeg y) × Fits w64 (natAbs y)) (sym same) (p .0, p .1)
+
+  pub unsigned-is : natAbs (toZ w64 (ofZ w64 z)) ≡ ofZ w64 z
+  unsigned-is = ap natAbs same ∙ plain z f at-least .2
+
+-- ---- and of a negative one: the other bits are those of a small number
+
+pub record Flipped (z : ℤ) : Type 0 where
+  pub n : ℕ
+  pub small : n < 2 ^ 63
+  pub flipped : toZ w64 (18446744073709551615 - ofZ w64 z) ≡ pos n
+  pub whole : 18446744073709551615 - n ≡ ofZ w64 z
+
+flip : (z : ℤ) → SFits w64 z → leZ (pos 0) z ≡ false → Flipped z
+flip (pos n) f e = absurd (true≢false (sym (leb·zero n) ∙ e))
+flip (negsuc n) f e =
+    let q : 18446744073709551615 - (2 ^ 64 - suc n) ≡ n = omega (arith, f .sfits) in
+    record { n = n; small = f .sfits; flipped = ap (toZ w64) q ∙ toZ-pos w64 n (f .sfits); whole = omega (arith, f .sfits) }
+
+module _ (z : ℤ) (f : SFits w64 z) (h : leZ (pos 0) (toZ w64 (ofZ w64 z)) ≡ false) where
+  pub told : Flipped z
+  told = flip z f (ap (leZ (pos 0)) (sym (toZ-ofZ w64 z f)) ∙ h)
+
+  pub other-fits : T (nonNeg (toZ w64 (18446744073709551615 - ofZ w64 z))) × Fits w64 (natAbs (toZ w64 (18446744073709551615 - ofZ w64 z)))
+  other-fits =
+      subst (λ (y : ℤ). T (nonNeg y) × Fits w64 (natAbs y)) (sym (told .flipped)) (tt, record { fits = omega (arith, told .small) })
+
+  other-is : natAbs (toZ w64 (18446744073709551615 - ofZ w64 z)) ≡ told .n
+  other-is = ap natAbs (told .flipped)
+
+  pub other-small : natAbs (toZ w64 (18446744073709551615 - ofZ w64 z)) ≤ 18446744073709551615
+  other-small = omega (arith, other-is, told .small)
+
+  pub negative-is : 18446744073709551615 - natAbs (toZ w64 (18446744073709551615 - ofZ w64 z)) ≡ ofZ w64 z
+  negative-is = ap (λ (x : ℕ). 18446744073709551615 - x) other-is ∙ told .whole

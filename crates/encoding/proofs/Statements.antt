@@ -7,36 +7,41 @@ use native.Mathlib.Omega.{arith}
 use lib.Dec.{T, ltb, ltb→lt, lt→ltb}
 use lib.ListN.{length}
 use borrow.Author.Tests.{leb-false, not-false}
-use Rattle.encoding.specs.Classes.{Feature, SME2, flag, Class, classes, classAt, belongs, maskOf}
+use Rattle.encoding.specs.Classes.{Class, classes, classAt, belongs, maskOf}
+use Rattle.encoding.specs.declared.Feature.{Feature}
 use Rattle.encoding.specs.Decoding.{storeAs, storeOf, indexOf, decodeOf}
-use Rattle.encoding.specs.Encoding.{numberOf, featureOf, rowOf, rowFor, classFor, notListed, outOfRange, lacked, unnamed, misextended, refused, placed, valuesIn, encodeOf}
+use Rattle.encoding.specs.Encoding.{numberOf, featureOf, rowNumbered, classNumbered, rowFor, classFor, notListed, outOfRange}
+use Rattle.encoding.specs.Encoding.{lacked, unnamed, misextended, refused, placed, valuesIn, encodeOf}
 use Rattle.encoding.specs.Answers.{decodedNumber, encodedNumber}
-use Rattle.encoding.specs.Statements.{DecodesItsClass, UndefinedOutside, OneClass, MaskIsMembership, RefusedForACause, EncodesDecoded, DecodesEncoded}
+use Rattle.encoding.specs.Statements.{DecodesItsClass, UndefinedOutside, OneClass, MaskIsMembership, RefusedForACause}
+use Rattle.encoding.specs.Statements.{EncodesDecoded, DecodesEncoded}
 use Rattle.encoding.specs.declared.Store.{Store}
 use Rattle.encoding.specs.declared.Decoded.{Decoded}
 use Rattle.encoding.specs.declared.Decoded.the-variants.{Known, Undefined}
 use Rattle.encoding.specs.declared.Encoded.{Encoded}
 use Rattle.encoding.specs.declared.Encoded.the-variants.{Word, Fields}
-use Rattle.encoding.proofs.Tests.{yes, no, holds, fails}
+use Rattle.encoding.proofs.Tests.{absurdly, yes, no, holds, fails}
 use Rattle.encoding.proofs.Places.{Row, reads, sumAt, joined, made-small, made-masked, made-reads}
-use Rattle.encoding.proofs.Rows.{placesAs, row-at, masked, unmasked, number-at, row-found, row-holds, found-feature, small-at, striding, one-class, index-found, index-none, index-holds}
+use Rattle.encoding.proofs.Rows.{placesAs, row-at, masked, unmasked, number-at, row-found, row-holds, row-numbered, small-at}
+use Rattle.encoding.proofs.Rows.{striding, one-class, index-found, index-none, index-holds}
 use Rattle.encoding.proofs.Reading.{undefined, defined}
 use Rattle.encoding.proofs.Causes.{fits, refused-is, encode-yes}
-use Rattle.encoding.proofs.Inverse.{fromAs, numbers, store-reads, store-number, store-feature, placed-sum, values-fit, from-values, store-values, store-fits}
+use Rattle.encoding.proofs.Inverse.{fromAs, numbers, store-reads, store-number, store-feature, placed-sum, values-fit}
+use Rattle.encoding.proofs.Inverse.{from-values, store-values, store-fits}
 
 -- ---- decoding
 
 -- what decoding answers, by its test
 known : (b : Bool) (x s : Store) → cond b (Known x) Undefined ≡ Known s → T b × (x ≡ s)
 known true x s e = (tt, cc)
-known false x s e = let z : _≡_ {A = ℕ} 0 1 = cc in absurd (omega arith)
+known false x s e = absurdly cc
 
 unknown : (b : Bool) (x : Store) → cond b (Known x) Undefined ≡ Undefined → T b → ⊥
-unknown true x e t = let z : _≡_ {A = ℕ} 0 1 = cc in omega arith
+unknown true x e t = absurdly cc
 unknown false x e t = t
 
 -- the class that a decoded store is of
-decoded-index : (w : ℕ) (s : Store) → decodeOf w ≡ Known s → (indexOf w < length classes) × (storeOf (classAt (indexOf w)) w ≡ s)
+pub decoded-index : (w : ℕ) (s : Store) → decodeOf w ≡ Known s → (indexOf w < length classes) × (storeOf (classAt (indexOf w)) w ≡ s)
 unfolding decodeOf
 decoded-index w s e =
     let t = known (ltb (indexOf w) (length classes)) (storeOf (classAt (indexOf w)) w) s e in
@@ -87,12 +92,12 @@ mask-is-membership k w h l = ((λ e. yes (belongs (classAt k) w) (masked k h w e
 
 -- what encoding answers, by its test
 word-told : (b : Bool) (x w : ℕ) → cond b Fields (Word x) ≡ Word w → (b ≡ false) × (x ≡ w)
-word-told true x w e = let z : _≡_ {A = ℕ} 0 1 = cc in absurd (omega arith)
+word-told true x w e = absurdly cc
 word-told false x w e = (refl, cc)
 
 fields-told : (b : Bool) (x : ℕ) → cond b Fields (Word x) ≡ Fields → b ≡ true
 fields-told true x e = refl
-fields-told false x e = let z : _≡_ {A = ℕ} 0 1 = cc in absurd (omega arith)
+fields-told false x e = absurdly cc
 
 pub one-of : (a b c d e : Bool) → a || b || c || d || e ≡ true → (a ≡ true) ⊎ ((b ≡ true) ⊎ ((c ≡ true) ⊎ ((d ≡ true) ⊎ (e ≡ true))))
 one-of true b c d e h = inl refl
@@ -121,7 +126,9 @@ pub refused-for-a-cause : RefusedForACause
 unfolding encodeOf refused
 refused-for-a-cause s =
     let c = classFor s in (
-      (λ e. one-of (notListed s) (outOfRange c s) (lacked c s) (unnamed c s) (misextended c s) (fields-told (refused s) _ (is-fields (encodeOf s) e))),
+      (λ e.
+          one-of (notListed s) (outOfRange c s) (lacked c s) (unnamed c s) (misextended c s)
+          (fields-told (refused s) _ (is-fields (encodeOf s) e))),
       (λ h.
           ap (λ (b : Bool). encodedNumber (cond b Fields (Word (c .base + placed (valuesIn c s)))))
           (of-one (notListed s) (outOfRange c s) (lacked c s) (unnamed c s) (misextended c s) h)),
@@ -137,7 +144,7 @@ word-row w l =
     let c = classAt k in
     let x = c .feature in
     let u = storeAs x c w in
-    sym (row-found (numberOf u) (flag (featureOf u)) k l (sym (number-at k l) ∙ sym (store-number x c w)) (ap flag (sym (store-feature x c w))))
+    sym (row-found (numberOf u) (featureOf u) k l (sym (number-at k l) ∙ sym (store-number x c w)) (sym (store-feature x c w)))
 
 pub encodes-decoded : EncodesDecoded
 unfolding storeOf
@@ -171,6 +178,17 @@ unfolding refused
 accepted s e =
     let l : rowFor s < length classes = leb-false (length classes) (rowFor s) (first-false (notListed s) _ _ _ _ e) in
     (l, holds (not-false (fits (classFor s) s) (sym (refused-is s (rowFor s) refl l) ∙ e)))
+
+-- its class is the one with its number
+module _ (s : Store) (e : refused s ≡ false) where
+  same-row : rowNumbered (numberOf s) ≡ rowFor s
+  same-row = row-numbered (numberOf s) (featureOf s) (accepted s e .0)
+
+  pub listed : rowNumbered (numberOf s) < length classes
+  listed = subst (λ (k : ℕ). k < length classes) (sym same-row) (accepted s e .0)
+
+  pub class-numbered : classNumbered (numberOf s) ≡ classFor s
+  class-numbered = ap classAt same-row
 
 pub encoded-fits : (s : Store) (w : ℕ) → encodeOf s ≡ Word w
     → (rowFor s < length classes) × T (fits (classFor s) s) × (classFor s .base + placed (valuesIn (classFor s) s) ≡ w)

@@ -1,6 +1,6 @@
 -- Tests: choices by a test, a test at some element, at every number below n. Assumes nothing.
 use mathlib.Core.Path.{_≡_, refl, sym, subst}
-use mathlib.Core.Bool.{Bool, true, false, not, cond, _&&_, _||_}
+use mathlib.Core.Bool.{Bool, true, false, cond, _&&_}
 use mathlib.Core.List.{List, [], _∷_}
 use Prim.Native.Nat.{ℕ, zero, suc, _<_}
 use native.Mathlib.Nat.{not-suc-le-zero, le-of-suc-le-suc}
@@ -24,6 +24,43 @@ holds e = subst T (sym e) tt
 
 pub fails : {b : Bool} → b ≡ false → T b → ⊥
 fails e t = subst T e t
+
+-- 0 is not 1
+pub absurdly : {A : Type 0} → _≡_ {A = ℕ} 0 1 → A
+absurdly e = absurd (omega (arith, e))
+
+-- ---- tests one after the other
+
+abbrev pub all : List Bool → Bool
+all [] = true
+all (b ∷ bs) = b && all bs
+
+abbrev pub Facts : List Bool → Type 0
+Facts [] = Unit {0}
+Facts (b ∷ bs) = T b × Facts bs
+
+pub facts : (bs : List Bool) → T (all bs) → Facts bs
+facts [] t = tt
+facts (b ∷ bs) t = (and-l b (all bs) t, facts bs (and-r b (all bs) t))
+
+pub made : (bs : List Bool) → Facts bs → T (all bs)
+made [] f = tt
+made (b ∷ bs) f = and-i b (all bs) (f .0) (made bs (f .1))
+
+-- in the order in which `a && b && c` is read
+abbrev pub allOf : Bool → List Bool → Bool
+allOf a [] = a
+allOf a (b ∷ bs) = allOf (a && b) bs
+
+pub told : (a : Bool) (bs : List Bool) → T (allOf a bs) → Facts (a ∷ bs)
+told a [] t = (t, tt)
+told a (b ∷ bs) t =
+    let r = told (a && b) bs t in
+    (and-l a b (r .0), (and-r a b (r .0), r .1))
+
+pub telling : (a : Bool) (bs : List Bool) → Facts (a ∷ bs) → T (allOf a bs)
+telling a [] f = f .0
+telling a (b ∷ bs) f = telling (a && b) bs (and-i a b (f .0) (f .1 .0), f .1 .1)
 
 module _ {ℓ} {A : Type ℓ} where
   pub cond-true : (b : Bool) (x y : A) → T b → cond b x y ≡ x

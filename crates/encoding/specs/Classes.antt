@@ -1,10 +1,12 @@
 -- Document 01, 'The instructions covered': the fields and their places, the table of classes, and when a word belongs to one.
 -- Assumes nothing.
-use Prim.Native.Nat.{ℕ, zero, suc, _+_, _-_, _*_, _/_, _%_, _^_}
-use mathlib.Core.Bool.{Bool, true, false, not, cond, _&&_, _||_}
+use Prim.Native.Nat.{ℕ, zero, suc, _+_, _-_, _/_, _%_, _^_}
+use mathlib.Core.Bool.{Bool, true, false, cond, _&&_, _||_}
 use mathlib.Core.List.{List, [], _∷_}
 use lib.Dec.{eqb, leb}
-use lib.ListN.{getD, length}
+use lib.ListN.{getD}
+use Rattle.encoding.specs.declared.Feature.{Feature}
+use Rattle.encoding.specs.declared.Feature.the-variants.{SVE, SME2, SVE2p1}
 
 -- ---- fields and places
 
@@ -62,11 +64,8 @@ index Zt2 = 11
 
 -- ---- the table
 
--- the flag that a class needs (document 01, verdict 4): "SVE for 1..7, SME2 for 8..11, SVE2p1 for 12"
-pub data Feature : Type 0 where
-  SVE SME2 SVE2p1 : Feature
-
--- its number among the flags, in document 01's order
+-- a class's feature is the flag that it needs (document 01, verdict 4): "SVE for 1..7, SME2 for 8..11, SVE2p1 for 12". Its number
+-- among the flags, in document 01's order, by which two are compared:
 abbrev pub flag : Feature → ℕ
 flag SVE = 0
 flag SME2 = 1

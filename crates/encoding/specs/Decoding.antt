@@ -1,10 +1,13 @@
 -- What a word is: document 01's decoded store. Assumes nothing.
-use Prim.Native.Nat.{ℕ, zero, suc, _+_, _*_}
+use Prim.Native.Nat.{ℕ, _+_, _*_}
 use mathlib.Core.Bool.{Bool, true, false, cond}
 use lib.Dec.{eqb, ltb}
 use lib.IntN.{ℤ, pos, _-ℤ_, _*ℤ_}
 use lib.ListN.{length}
-use Rattle.encoding.specs.Classes.{Field, Zm, Rm, imm4, xs, Pg, Pc, Rn, Zn, Zt, T, Zt3, Zt2, Feature, SVE, SME2, SVE2p1, Class, classes, classAt, position, belongs, has, read}
+use Rattle.encoding.specs.Classes.{Field, Zm, Rm, imm4, xs, Pg, Pc, Rn, Zn, Zt, T, Zt3, Zt2, Class, classes, classAt, position}
+use Rattle.encoding.specs.Classes.{belongs, has, read}
+use Rattle.encoding.specs.declared.Feature.{Feature}
+use Rattle.encoding.specs.declared.Feature.the-variants.{SVE, SME2, SVE2p1}
 use Rattle.encoding.specs.declared.Extension.{Extension}
 use Rattle.encoding.specs.declared.Extension.the-variants.{None, Uxtw, Sxtw}
 use Rattle.encoding.specs.declared.Store.{Store}

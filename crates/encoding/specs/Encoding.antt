@@ -5,7 +5,10 @@ use mathlib.Core.List.{List, [], _∷_}
 use lib.Dec.{eqb, leb, ltb}
 use lib.IntN.{ℤ, pos, negsuc}
 use lib.ListN.{length}
-use Rattle.encoding.specs.Classes.{Field, Zm, Rm, imm4, xs, Pg, Pc, Rn, Zn, Zt, T, low, size, Feature, SVE, SME2, SVE2p1, flag, Class, classes, classAt, position, any, has, width}
+use Rattle.encoding.specs.Classes.{Field, Zm, Rm, imm4, xs, Pg, Pc, Rn, Zn, Zt, T, low, size, flag, Class, classes, classAt}
+use Rattle.encoding.specs.Classes.{position, any, has, width}
+use Rattle.encoding.specs.declared.Feature.{Feature}
+use Rattle.encoding.specs.declared.Feature.the-variants.{SVE, SME2, SVE2p1}
 use Rattle.encoding.specs.Decoding.{multipleOf, ztOf}
 use Rattle.encoding.specs.declared.Extension.{Extension}
 use Rattle.encoding.specs.declared.Extension.the-variants.{None, Uxtw, Sxtw}
@@ -27,20 +30,24 @@ featureOf (Scatter f) = SVE
 featureOf (Strided f) = SME2
 featureOf (Quadword f) = SVE2p1
 
--- the place in the list of the class with this number, if it needs the flag x; the list's length where there is none
-unfoldable pub rowOf : ℕ → ℕ → ℕ
-rowOf n x = position (λ c. eqb (c .number) n && eqb (flag (c .feature)) x) classes
+-- the place in the list of the class with this number, if its feature is x; the list's length where there is none
+unfoldable pub rowOf : ℕ → Feature → ℕ
+rowOf n x = position (λ c. eqb (c .number) n && eqb (flag (c .feature)) (flag x)) classes
 
 -- a store's class: it has the store's number, and stores of its case
 abbrev pub rowFor : Store → ℕ
-rowFor s = rowOf (numberOf s) (flag (featureOf s))
+rowFor s = rowOf (numberOf s) (featureOf s)
 
 abbrev pub classFor : Store → Class
 classFor s = classAt (rowFor s)
 
--- the feature of the class with this number; what is named of a class not in the list is refused in any case of store
-unfoldable pub featureNumbered : ℕ → Feature
-featureNumbered n = classAt (position (λ c. eqb (c .number) n) classes) .feature
+-- the place of the class with this number, whatever its feature
+unfoldable pub rowNumbered : ℕ → ℕ
+rowNumbered n = position (λ c. eqb (c .number) n) classes
+
+-- what is named of a class not in the list is refused in any case of store
+abbrev pub classNumbered : ℕ → Class
+classNumbered n = classAt (rowNumbered n)
 
 -- ---- the values of its fields
 

@@ -1,14 +1,16 @@
 -- What is promised of decoding and encoding, beside the contracts of `decode` and `encode`. Each has its proof in
 -- proofs/Statements.antt. Assumes nothing.
-use Prim.Native.Nat.{ℕ, _^_, _<_}
-use mathlib.Core.Bool.{true, false}
+use Prim.Native.Nat.{ℕ, _+_, _-_, _*_, _/_, _%_, _^_, _<_}
+use mathlib.Core.Bool.{true, false, cond, _||_}
+use mathlib.Core.List.{List, [], _∷_}
 use mathlib.Core.Logic.{_↔_, _⊎_}
 use mathlib.Core.Path.{_≡_}
 use lib.Bits.{bitAnd}
+use lib.Dec.{ltb}
 use lib.ListN.{length}
-use Rattle.encoding.specs.Classes.{classes, classAt, belongs, maskOf}
+use Rattle.encoding.specs.Classes.{Zm, Rm, imm4, xs, T, Zt3, Class, classes, classAt, bit, belongs, maskOf, has}
 use Rattle.encoding.specs.Decoding.{storeOf, decodeOf}
-use Rattle.encoding.specs.Answers.{decodedNumber, encodedNumber}
+use Rattle.encoding.specs.Answers.{decodedNumber, decodedNumbers, encodedNumber}
 use Rattle.encoding.specs.Encoding.{classFor, notListed, outOfRange, lacked, unnamed, misextended, encodeOf}
 use Rattle.encoding.specs.declared.Store.{Store}
 use Rattle.encoding.specs.declared.Decoded.the-variants.{Known}
@@ -34,14 +36,16 @@ MaskIsMembership =
     (k w : ℕ) → k < length classes → w < 2 ^ 32
     → (bitAnd w (maskOf (classAt k)) ≡ classAt k .base) ↔ (belongs (classAt k) w ≡ true)
 
--- encoding answers 11 exactly when one of the causes holds
-abbrev pub RefusedForACause : Type 0
-RefusedForACause =
-    (s : Store)
-    → (encodedNumber (encodeOf s) ≡ 11)
-    ↔ ((notListed s ≡ true)
+-- one of document 01's causes of 11 holds
+abbrev pub Caused : Store → Type 0
+Caused s =
+    (notListed s ≡ true)
     ⊎ ((outOfRange (classFor s) s ≡ true)
-    ⊎ ((lacked (classFor s) s ≡ true) ⊎ ((unnamed (classFor s) s ≡ true) ⊎ (misextended (classFor s) s ≡ true)))))
+    ⊎ ((lacked (classFor s) s ≡ true) ⊎ ((unnamed (classFor s) s ≡ true) ⊎ (misextended (classFor s) s ≡ true))))
+
+-- encoding answers 11 exactly then
+abbrev pub RefusedForACause : Type 0
+RefusedForACause = (s : Store) → (encodedNumber (encodeOf s) ≡ 11) ↔ Caused s
 
 -- encoding is decoding's inverse: what a word decodes to encodes to that word
 abbrev pub EncodesDecoded : Type 0
@@ -50,3 +54,29 @@ EncodesDecoded = (w : ℕ) (s : Store) → w < 2 ^ 32 → decodeOf w ≡ Known s
 -- and what a store encodes to is a 32-bit word that decodes to that store
 abbrev pub DecodesEncoded : Type 0
 DecodesEncoded = (s : Store) (w : ℕ) → encodeOf s ≡ Word w → (w < 2 ^ 32) × (decodeOf w ≡ Known s)
+
+-- ---- the eight numbers of a decoded store, from the word's bits alone
+
+-- imm4 "read as −8..7, times 2 or 4", in two's complement of 64 bits
+abbrev pub multipleBits : ℕ → ℕ → ℕ
+multipleBits nreg v = cond (ltb v 8) (v * nreg) (2 ^ 64 - (16 - v) * nreg)
+
+-- class; bits 20..16 as Zm or Rm; the extension's code: 0 where the class has none, 1 UXTW for xs 0, 2 SXTW for xs 1; bits 12..10 as Pg
+-- or Pc; bits 9..5 as Rn or Zn; bits 4..0 as Zt, or the first register, "T·16 + Zt"; the multiple; zero
+abbrev pub wordNumbers : Class → ℕ → List ℕ
+wordNumbers c w =
+    c .number
+    ∷ cond (has c Zm || has c Rm) (w / 2 ^ 16 % 2 ^ 5) 0
+    ∷ cond (has c xs) (1 + bit w 14) 0
+    ∷ w / 2 ^ 10 % 2 ^ 3
+    ∷ w / 2 ^ 5 % 2 ^ 5
+    ∷ cond (has c T) (bit w 4 * 16 + w % cond (has c Zt3) (2 ^ 3) (2 ^ 2)) (w % 2 ^ 5)
+    ∷ cond (has c imm4) (multipleBits (c .nreg) (w / 2 ^ 16 % 2 ^ 4)) 0
+    ∷ 0
+    ∷ []
+
+-- what a word of a class decodes to are these numbers
+abbrev pub NumbersFromBits : Type 0
+NumbersFromBits =
+    (k w : ℕ) → k < length classes → belongs (classAt k) w ≡ true
+    → (decodedNumber (decodeOf w) ≡ 0) × (decodedNumbers (decodeOf w) ≡ wordNumbers (classAt k) w)

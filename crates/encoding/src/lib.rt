@@ -1,20 +1,31 @@
 // Words and decoded stores: which class of document 01 a word belongs to, what its fields say, and the way back.
-pub mod table;
+pub mod complement;
+mod table;
 
 ghost use mathlib.Core.Path.{_≡_};
 ghost use mathlib.Core.Bool.{not, _&&_};
 ghost use Prim.Native.Nat.{_+_, _*_, _/_, _%_, _<_, _≤_};
 ghost use lib.Dec.{ltb};
-ghost use Rattle.encoding.specs.Classes.{SVE, SME2, SVE2p1, classAt, flag};
+ghost use lib.ListN.{length};
+ghost use Rattle.encoding.specs.Classes.{classes, classAt};
+ghost use Rattle.encoding.specs.declared.Feature.the-variants.{SVE, SME2, SVE2p1};
 ghost use Rattle.encoding.specs.Decoding.{decodeOf, storeOf, multipleOf, extensionOf};
-ghost use Rattle.encoding.specs.Encoding.{encodeOf, featureNumbered, immOf, misextends, rowOf, xsOf};
+ghost use Rattle.encoding.specs.Encoding.{encodeOf, classNumbered, rowNumbered, immOf, misextends, xsOf};
 ghost use Rattle.encoding.specs.Layouts.{layoutOf, Bounded};
 use table::CLASSES;
 use table::base_of;
 use table::feature_at;
 use table::index_of;
 use table::layout_of;
+use table::row_numbered;
 use table::row_of;
+
+// What a class needs: document 01's first three flags.
+pub enum Feature {
+    SVE,
+    SME2,
+    SVE2p1,
+}
 
 // How a scatter store's 32-bit offset is extended; None for 64-bit offsets.
 pub enum Extension {
@@ -71,10 +82,9 @@ pub enum Encoded {
     Fields,
 }
 
-// What code needs of a class: the number of its feature's flag, its number of registers; how many values the fields can take in
-// which classes of one feature differ, 1 for a field that the class lacks; esize/8, msize/8 and the scale.
+// What code needs of a class: its number of registers; how many values the fields can take in which classes of one feature differ,
+// 1 for a field that the class lacks; esize/8, msize/8 and the scale.
 pub struct Layout {
-    pub feature: u32,
     pub nreg: u32,
     pub xs: u32,
     pub rm: u32,
@@ -113,8 +123,8 @@ fn extension_of(has: bool, xs: u32) -> Extension
 }
 
 // The fields of a word of class k + 1, by the class's feature.
-pub fn scatter(k: usize, word: u32) -> ScatterFields
-    requires { ⌜ (k < 12) × (classAt k .feature ≡ SVE) ⌝ }
+fn scatter(k: usize, word: u32) -> ScatterFields
+    requires { ⌜ (k < length classes) × (classAt k .feature ≡ SVE) ⌝ }
     ensures { λ r. ⌜ Store.Scatter r ≡ storeOf (classAt k) word ⌝ }
 {
     let layout = layout_of(k);
@@ -129,8 +139,8 @@ pub fn scatter(k: usize, word: u32) -> ScatterFields
     }
 }
 
-pub fn strided(k: usize, word: u32) -> StridedFields
-    requires { ⌜ (k < 12) × (classAt k .feature ≡ SME2) ⌝ }
+fn strided(k: usize, word: u32) -> StridedFields
+    requires { ⌜ (k < length classes) × (classAt k .feature ≡ SME2) ⌝ }
     ensures { λ r. ⌜ Store.Strided r ≡ storeOf (classAt k) word ⌝ }
 {
     let layout = layout_of(k);
@@ -146,8 +156,8 @@ pub fn strided(k: usize, word: u32) -> StridedFields
     }
 }
 
-pub fn quadword(k: usize, word: u32) -> QuadwordFields
-    requires { ⌜ (k < 12) × (classAt k .feature ≡ SVE2p1) ⌝ }
+fn quadword(k: usize, word: u32) -> QuadwordFields
+    requires { ⌜ (k < length classes) × (classAt k .feature ≡ SVE2p1) ⌝ }
     ensures { λ r. ⌜ Store.Quadword r ≡ storeOf (classAt k) word ⌝ }
 {
     QuadwordFields {
@@ -167,14 +177,11 @@ pub fn decode(word: u32) -> Decoded
     if CLASSES <= k {
         return Decoded::Undefined;
     }
-    let feature = feature_at(k);
-    if feature == 0 {
-        return Decoded::Known(Store::Scatter(scatter(k, word)));
+    match feature_at(k) {
+        Feature::SVE => Decoded::Known(Store::Scatter(scatter(k, word))),
+        Feature::SME2 => Decoded::Known(Store::Strided(strided(k, word))),
+        Feature::SVE2p1 => Decoded::Known(Store::Quadword(quadword(k, word))),
     }
-    if feature == 1 {
-        return Decoded::Known(Store::Strided(strided(k, word)));
-    }
-    Decoded::Known(Store::Quadword(quadword(k, word)))
 }
 
 // Whether a class that has an extension, or has none, can have this one.
@@ -232,7 +239,7 @@ fn scatter_sum(f: ScatterFields, xs: u32) -> u32
 fn encode_scatter(f: ScatterFields) -> Encoded
     ensures { λ r. ⌜ r ≡ encodeOf (Store.Scatter f) ⌝ }
 {
-    let k = row_of(f.class, 0);
+    let k = row_of(f.class, Feature::SVE);
     if CLASSES <= k {
         return Encoded::Fields;
     }
@@ -246,7 +253,8 @@ fn encode_scatter(f: ScatterFields) -> Encoded
 }
 
 fn strided_fits(f: StridedFields, imm4: u8, layout: Layout) -> bool
-    ensures { λ r. ⌜ r ≡ (ltb (f .rm) (layout .rm) && ltb (f .pc) 8 && ltb (f .rn) 32 && ltb (f .first / 16) 2 && ltb (f .first % 16) (layout .zt) && ltb imm4 (layout .imm4)) ⌝ }
+    ensures { λ r. ⌜ r ≡ (ltb (f .rm) (layout .rm) && ltb (f .pc) 8 && ltb (f .rn) 32
+        && ltb (f .first / 16) 2 && ltb (f .first % 16) (layout .zt) && ltb imm4 (layout .imm4)) ⌝ }
 {
     ((f.rm as u32) < layout.rm)
         & (f.pc < 8)
@@ -270,7 +278,7 @@ fn strided_sum(f: StridedFields, imm4: u8) -> u32
 fn encode_strided(f: StridedFields) -> Encoded
     ensures { λ r. ⌜ r ≡ encodeOf (Store.Strided f) ⌝ }
 {
-    let k = row_of(f.class, 1);
+    let k = row_of(f.class, Feature::SME2);
     if CLASSES <= k {
         return Encoded::Fields;
     }
@@ -299,7 +307,7 @@ fn quadword_sum(f: QuadwordFields) -> u32
 fn encode_quadword(f: QuadwordFields) -> Encoded
     ensures { λ r. ⌜ r ≡ encodeOf (Store.Quadword f) ⌝ }
 {
-    let k = row_of(f.class, 2);
+    let k = row_of(f.class, Feature::SVE2p1);
     if CLASSES <= k {
         return Encoded::Fields;
     }
@@ -321,26 +329,22 @@ pub fn encode(store: Store) -> Encoded
     }
 }
 
-// The number of the flag that the class with this number needs; 0 where the list has no such class.
-pub fn feature_of(class: u8) -> u32
-    ensures is { λ r. ⌜ r ≡ flag (featureNumbered class) ⌝ }
-    ensures bounded { λ r. ⌜ r < 3 ⌝ }
+// The feature of the class with this number; SVE where the list has no such class.
+pub fn feature_of(class: u8) -> Feature
+    ensures { λ r. ⌜ r ≡ classNumbered class .feature ⌝ }
 {
-    if class == 0 {
-        return 0;
-    }
-    let k = (class - 1) as usize;
+    let k = row_numbered(class);
     if CLASSES <= k {
-        return 0;
+        return Feature::SVE;
     }
     feature_at(k)
 }
 
-// The layout of the class of a store with this number, whose case is that of this feature.
-pub fn layout_for(class: u8, feature: u32) -> Layout
-    requires { ⌜ rowOf class feature < 12 ⌝ }
-    ensures is { λ r. ⌜ r ≡ layoutOf (classAt (rowOf class feature)) ⌝ }
+// The layout of the class with this number.
+pub fn layout_for(class: u8) -> Layout
+    requires { ⌜ rowNumbered class < length classes ⌝ }
+    ensures is { λ r. ⌜ r ≡ layoutOf (classNumbered class) ⌝ }
     ensures bounded { λ r. ⌜ Bounded r ⌝ }
 {
-    layout_of((class - 1) as usize)
+    layout_of(row_numbered(class))
 }

@@ -1,16 +1,18 @@
 // The code's tables of the classes, and how a class is found in them.
 ghost use mathlib.Core.Path.{_≡_};
-ghost use Prim.Native.Nat.{_^_, _<_, _≤_};
-ghost use Rattle.encoding.specs.Classes.{classAt, flag};
+ghost use Prim.Native.Nat.{_+_, _^_, _<_, _≤_};
+ghost use lib.ListN.{length};
+ghost use Rattle.encoding.specs.Classes.{classes, classAt, flag};
 ghost use Rattle.encoding.specs.Decoding.{indexOf};
-ghost use Rattle.encoding.specs.Encoding.{rowOf};
-ghost use Rattle.encoding.specs.Layouts.{layoutOf, digitAt, packedOf, Bounded};
+ghost use Rattle.encoding.specs.Encoding.{rowOf, rowNumbered};
+ghost use Rattle.encoding.specs.Layouts.{layoutOf, digitAt, packedOf, featureFrom, Bounded};
+use super::Feature;
 use super::Layout;
 
-pub const CLASSES: usize = 12;
+pub(crate) const CLASSES: usize = 12;
 
 // The fixed bits of each class, and what they are: a mask and the base word.
-const ROWS: [[u32; 2]; 12] = [
+const ROWS: [[u32; 2]; CLASSES] = [
     [0xFFE0A000, 0xE5A08000],
     [0xFFE0A000, 0xE5808000],
     [0xFFE0E000, 0xE5A0A000],
@@ -25,16 +27,31 @@ const ROWS: [[u32; 2]; 12] = [
     [0xFFE0E000, 0xE4202000],
 ];
 
-// The number of the flag that class k + 1 needs, as hexadecimal digit k from the right.
-const FEATURES: u64 = 0x2_1111_0000000;
+// What code needs of each class besides, by the hexadecimal digits of a number: its feature, nreg, how many bits its fields xs, Rm, imm4
+// and the strided Zt have, esize/8 and msize/8 as powers of 2, the scale, and in the last two digits the class's number.
+const PACKED: [u64; CLASSES] = [
+    0x0_1_1_0_0_0_3_3_3_01,
+    0x0_1_1_0_0_0_3_3_0_02,
+    0x0_1_0_0_0_0_3_3_3_03,
+    0x0_1_0_0_0_0_3_3_0_04,
+    0x0_1_1_0_0_0_3_0_0_05,
+    0x0_1_1_0_0_0_2_0_0_06,
+    0x0_1_0_0_0_0_3_0_0_07,
+    0x1_2_0_5_0_3_3_3_3_08,
+    0x1_4_0_5_0_2_3_3_3_09,
+    0x1_2_0_0_4_3_3_3_0_0A,
+    0x1_4_0_0_4_2_3_3_0_0B,
+    0x2_1_0_5_0_0_4_4_0_0C,
+];
 
 // The place in the table of the class that the word belongs to; CLASSES where it belongs to none.
-pub fn index_of(word: u32) -> usize
+pub(crate) fn index_of(word: u32) -> usize
     ensures { λ r. ⌜ r ≡ indexOf word ⌝ }
 {
+    let rows = ROWS;
     let mut i: usize = 0;
     while i < CLASSES {
-        let row = ROWS[i];
+        let row = rows[i];
         if word & row[0] == row[1] {
             return i;
         }
@@ -44,7 +61,7 @@ pub fn index_of(word: u32) -> usize
 }
 
 pub(crate) fn base_of(k: usize) -> u32
-    requires { ⌜ k < 12 ⌝ }
+    requires { ⌜ k < length classes ⌝ }
     ensures is { λ r. ⌜ r ≡ classAt k .base ⌝ }
     ensures bounded { λ r. ⌜ r ≤ 0xF0000000 ⌝ }
 {
@@ -69,67 +86,93 @@ fn power(n: u64, k: usize) -> u32
     1 << digit(n, k)
 }
 
-// The number of the flag that class k + 1 needs.
-pub fn feature_at(k: usize) -> u32
-    requires { ⌜ k < 12 ⌝ }
-    ensures is { λ r. ⌜ r ≡ flag (classAt k .feature) ⌝ }
-    ensures bounded { λ r. ⌜ r < 3 ⌝ }
-{
-    digit(FEATURES, k)
-}
-
-// What code needs of class k + 1 besides, by the hexadecimal digits of a number: nreg, how many bits its fields xs, Rm, imm4 and the
-// strided Zt have, esize/8 and msize/8 as powers of 2, the scale. A match, since a constant array is put on the stack each time that it
-// is read.
+// The number of class k + 1 in PACKED. A search by the class's number and not an index, so that the compiler unrolls it and reads
+// a table in read-only memory; an indexed constant array is put on the stack each time.
 fn packed(k: usize) -> u64
-    requires { ⌜ k < 12 ⌝ }
+    requires { ⌜ k < length classes ⌝ }
     ensures { λ r. ⌜ r ≡ packedOf (classAt k) ⌝ }
 {
-    match k {
-        0 => 0x1_1_0_0_0_3_3_3,
-        1 => 0x1_1_0_0_0_3_3_0,
-        2 => 0x1_0_0_0_0_3_3_3,
-        3 => 0x1_0_0_0_0_3_3_0,
-        4 => 0x1_1_0_0_0_3_0_0,
-        5 => 0x1_1_0_0_0_2_0_0,
-        6 => 0x1_0_0_0_0_3_0_0,
-        7 => 0x2_0_5_0_3_3_3_3,
-        8 => 0x4_0_5_0_2_3_3_3,
-        9 => 0x2_0_0_4_3_3_3_0,
-        10 => 0x4_0_0_4_2_3_3_0,
-        _ => 0x1_0_5_0_0_4_4_0,
+    let rows = PACKED;
+    let mut i: usize = 0;
+    while i < CLASSES {
+        let n = rows[i];
+        if n % 256 == k as u64 + 1 {
+            return n;
+        }
+        i += 1;
+    }
+    0
+}
+
+// A feature by its digit.
+fn feature_from(digit: u32) -> Feature
+    ensures { λ r. ⌜ r ≡ featureFrom digit ⌝ }
+{
+    match digit {
+        0 => Feature::SVE,
+        1 => Feature::SME2,
+        _ => Feature::SVE2p1,
     }
 }
 
+// The feature that class k + 1 needs.
+pub(crate) fn feature_at(k: usize) -> Feature
+    requires { ⌜ k < length classes ⌝ }
+    ensures { λ r. ⌜ r ≡ classAt k .feature ⌝ }
+{
+    feature_from(digit(packed(k), 10))
+}
+
 pub(crate) fn layout_of(k: usize) -> Layout
-    requires { ⌜ k < 12 ⌝ }
+    requires { ⌜ k < length classes ⌝ }
     ensures is { λ r. ⌜ r ≡ layoutOf (classAt k) ⌝ }
     ensures bounded { λ r. ⌜ Bounded r ⌝ }
 {
     let n = packed(k);
     Layout {
-        feature: feature_at(k),
-        nreg: digit(n, 7),
-        xs: power(n, 6),
-        rm: power(n, 5),
-        imm4: power(n, 4),
-        zt: power(n, 3),
-        step: power(n, 2),
-        size: power(n, 1),
-        scale: digit(n, 0),
+        nreg: digit(n, 9),
+        xs: power(n, 8),
+        rm: power(n, 7),
+        imm4: power(n, 6),
+        zt: power(n, 5),
+        step: power(n, 4),
+        size: power(n, 3),
+        scale: digit(n, 2),
     }
 }
 
-// The place of the class with this number, if it needs this feature; CLASSES where there is none.
-pub(crate) fn row_of(class: u8, feature: u32) -> usize
-    ensures { λ r. ⌜ r ≡ rowOf class feature ⌝ }
+// The place of the class with this number; CLASSES where there is none.
+pub(crate) fn row_numbered(class: u8) -> usize
+    ensures { λ r. ⌜ r ≡ rowNumbered class ⌝ }
 {
     if class == 0 {
         return CLASSES;
     }
     let k = (class - 1) as usize;
+    if k < CLASSES { k } else { CLASSES }
+}
+
+fn flag_of(feature: Feature) -> u32
+    ensures { λ r. ⌜ r ≡ flag feature ⌝ }
+{
+    match feature {
+        Feature::SVE => 0,
+        Feature::SME2 => 1,
+        Feature::SVE2p1 => 2,
+    }
+}
+
+// The place of the class with this number, if it needs this feature; CLASSES where there is none.
+pub(crate) fn row_of(class: u8, feature: Feature) -> usize
+    ensures { λ r. ⌜ r ≡ rowOf class feature ⌝ }
+{
+    let k = row_numbered(class);
     if CLASSES <= k {
         return CLASSES;
     }
-    if feature_at(k) == feature { k } else { CLASSES }
+    if flag_of(feature_at(k)) == flag_of(feature) {
+        k
+    } else {
+        CLASSES
+    }
 }

@@ -18,11 +18,13 @@ use Rattle.writes.specs.Elements as W
 use Rattle.writes.proofs.Order.{two}
 use Rattle.elements.specs.Machine.{Machine, register}
 use Rattle.elements.specs.Stores.{countOf}
-use Rattle.elements.specs.Plans.{vectorActive, vectorAddress, vectorElement, stridedActive, stridedAddress, stridedElement, scatterPlan, quadwordPlan, stridedPlan}
+use Rattle.elements.specs.Plans.{vectorActive, vectorAddress, vectorElement, stridedActive, stridedAddress, stridedElement}
+use Rattle.elements.specs.Plans.{scatterPlan, quadwordPlan, stridedPlan}
 use Rattle.elements.specs.declared.VectorPlan.{VectorPlan}
 use Rattle.elements.specs.declared.StridedPlan.{StridedPlan}
 use Rattle.elements.proofs.Shapes.{ScatterIn, QuadwordIn, StridedIn}
-use Rattle.elements.proofs.Listing.{scatter-count, scatter-active, scatter-element, quadword-count, quadword-active, quadword-element, strided-active, strided-element}
+use Rattle.elements.proofs.Listing.{scatter-count, scatter-active, scatter-element, quadword-count, quadword-active, quadword-element}
+use Rattle.elements.proofs.Listing.{strided-active, strided-element}
 use Rattle.checks.specs.Verdicts.{lengthOk, registersOk}
 use Rattle.inspection.specs.Inspection.{counted, inspectedAt, inspectedFor, inspectedOf}
 use Rattle.inspection.specs.Steps.{vectorInspected, stridedInspected}
@@ -33,7 +35,8 @@ use Rattle.inspection.specs.declared.Inspected.the-variants.{Length, Reg
 past : (e n : ℕ) (active : Bool) (address place size : ℕ) → n ≤ e → Past n ≡ counted e n active address place size
 past e n active address place size h = sym (ap (λ (b : Bool). cond b (Element active address place size n) (Past n)) (le-ltb e n h))
 
-found : (e n : ℕ) (active : Bool) (address place size : ℕ) → e < n → Element active address place size n ≡ counted e n active address place size
+found : (e n : ℕ) (active : Bool) (address place size : ℕ) → e < n
+    → Element active address place size n ≡ counted e n active address place size
 found e n active address place size h = sym (ap (λ (b : Bool). cond b (Element active address place size n) (Past n)) (lt-ltb e n h))
 
 module _ (v : VectorPlan) (vb : ℕ) (z p : List ℕ) (e : ℕ) where
@@ -41,8 +44,8 @@ module _ (v : VectorPlan) (vb : ℕ) (z p : List ℕ) (e : ℕ) where
   unfolding vectorInspected
   vector-past h = past e (v .count) _ _ _ _ h
 
-  pub vector-found : (o g : List ℕ) (active : Bool) (address : ℕ) → e < v .count → o ≡ register vb z (v .offsets) → g ≡ register (vb / 8) p (v .governing)
-      → active ≡ vectorActive v g e → address ≡ vectorAddress v o e
+  pub vector-found : (o g : List ℕ) (active : Bool) (address : ℕ) → e < v .count → o ≡ register vb z (v .offsets)
+      → g ≡ register (vb / 8) p (v .governing) → active ≡ vectorActive v g e → address ≡ vectorAddress v o e
       → Element active address (v .stored * vb + e * v .step) (v .size) (v .count) ≡ vectorInspected v vb z p e
   unfolding vectorInspected
   vector-found o g active address h qo qg r s =
@@ -51,15 +54,19 @@ module _ (v : VectorPlan) (vb : ℕ) (z p : List ℕ) (e : ℕ) where
       ∙ found e (v .count) _ _ _ _ h
 
 module _ (s : StridedPlan) (vb e : ℕ) where
+  -- the element's first byte in the Z buffer
+  abbrev place : ℕ
+  place = (s .first + e / s .per * s .stride) * vb + e % s .per * s .step
+
   pub strided-past : s .nreg * s .per ≤ e → Past (s .nreg * s .per) ≡ stridedInspected s vb e
   unfolding stridedInspected
   strided-past h = past e (s .nreg * s .per) _ _ _ _ h
 
   pub strided-found : (active : Bool) (address : ℕ) → e < s .nreg * s .per → active ≡ stridedActive s e → address ≡ stridedAddress s e
-      → Element active address ((s .first + e / s .per * s .stride) * vb + e % s .per * s .step) (s .size) (s .nreg * s .per) ≡ stridedInspected s vb e
+      → Element active address place (s .size) (s .nreg * s .per) ≡ stridedInspected s vb e
   unfolding stridedInspected
   strided-found active address h r q =
-      ap₂ (λ (b : Bool) (a : ℕ). Element b a ((s .first + e / s .per * s .stride) * vb + e % s .per * s .step) (s .size) (s .nreg * s .per)) r q
+      ap₂ (λ (b : Bool) (a : ℕ). Element b a place (s .size) (s .nreg * s .per)) r q
       ∙ found e (s .nreg * s .per) _ _ _ _ h
 
 -- ---- a store's element is its plan's
@@ -73,13 +80,15 @@ module _ (m : Machine) (e : ℕ) where
       → vectorInspected (scatterPlan m (classFor (Scatter f)) f) (m .vb) (m .z) (m .p) e ≡ inspectedAt m (Scatter f) e
   unfolding inspectedAt vectorInspected vectorElement
   scatter-inspected f s b =
-      sym (counted-same e _ _ (scatter-count m f s) (scatter-active m f s e) (ap (λ (y : W.Element). y .address) (scatter-element m b f s e)))
+      let a = ap (λ (y : W.Element). y .address) (scatter-element m b f s e) in
+      sym (counted-same e _ _ (scatter-count m f s) (scatter-active m f s e) a)
 
   pub quadword-inspected : (f : QuadwordFields) → QuadwordIn f (classFor (Quadword f))
       → vectorInspected (quadwordPlan m (classFor (Quadword f)) f) (m .vb) (m .z) (m .p) e ≡ inspectedAt m (Quadword f) e
   unfolding inspectedAt vectorInspected vectorElement
   quadword-inspected f s =
-      sym (counted-same e _ _ (quadword-count m f s) (quadword-active m f s e) (ap (λ (y : W.Element). y .address) (quadword-element m f s e)))
+      let a = ap (λ (y : W.Element). y .address) (quadword-element m f s e) in
+      sym (counted-same e _ _ (quadword-count m f s) (quadword-active m f s e) a)
 
   pub strided-inspected : (f : StridedFields) → StridedIn f (classFor (Strided f))
       → stridedInspected (stridedPlan m (classFor (Strided f)) f) (m .vb) e ≡ inspectedAt m (Strided f) e
@@ -97,24 +106,28 @@ module _ (m : Machine) (word e : ℕ) where
   pub inspected-length : (b : Bool) → b ≡ lengthOk (m .vb) → not b ≡ true → Length ≡ inspectedOf m word e
   unfolding inspectedOf
   inspected-length b q t =
-      sym (ap (λ (y : Bool). cond y Length (cond (not (registersOk m)) Registers (inspectedFor m (decodeOf word) e))) (ap not (sym q) ∙ t))
+      sym
+      (ap (λ (y : Bool). cond y Length (cond (not (registersOk m)) Registers (inspectedFor m (decodeOf word) e))) (ap not (sym q) ∙ t))
 
   module _ (b : Bool) (q : b ≡ lengthOk (m .vb)) (t : not b ≡ false) where
     past-1 : inspectedOf m word e ≡ cond (not (registersOk m)) Registers (inspectedFor m (decodeOf word) e)
     unfolding inspectedOf
-    past-1 = ap (λ (y : Bool). cond y Length (cond (not (registersOk m)) Registers (inspectedFor m (decodeOf word) e))) (ap not (sym q) ∙ t)
+    past-1 =
+        ap (λ (y : Bool). cond y Length (cond (not (registersOk m)) Registers (inspectedFor m (decodeOf word) e))) (ap not (sym q) ∙ t)
 
     by-registers : (d : Bool) → registersOk m ≡ d → inspectedOf m word e ≡ cond (not d) Registers (inspectedFor m (decodeOf word) e)
     by-registers d r = past-1 ∙ ap (λ (y : Bool). cond (not y) Registers (inspectedFor m (decodeOf word) e)) r
 
     pub inspected-z : (length (m .z) ≡ 32 * m .vb → ⊥) → Registers ≡ inspectedOf m word e
     unfolding registersOk
-    inspected-z h = sym (by-registers false (ap (λ (y : Bool). y && eqb (length (m .p)) (2 * m .vb)) (ne-eqb (length (m .z)) (32 * m .vb) h)))
+    inspected-z h =
+        sym (by-registers false (ap (λ (y : Bool). y && eqb (length (m .p)) (2 * m .vb)) (ne-eqb (length (m .z)) (32 * m .vb) h)))
 
     module _ (qz : length (m .z) ≡ 32 * m .vb) where
       pub inspected-p : (length (m .p) ≡ 2 * m .vb → ⊥) → Registers ≡ inspectedOf m word e
       unfolding registersOk
-      inspected-p h = sym (by-registers false (ap₂ _&&_ (eq-eqb (length (m .z)) (32 * m .vb) qz) (ne-eqb (length (m .p)) (2 * m .vb) h)))
+      inspected-p h =
+          sym (by-registers false (ap₂ _&&_ (eq-eqb (length (m .z)) (32 * m .vb) qz) (ne-eqb (length (m .p)) (2 * m .vb) h)))
 
       module _ (qp : length (m .p) ≡ 2 * m .vb) where
         pub inspected-decoded : (d : Decoded) → d ≡ decodeOf word → inspectedFor m d e ≡ inspectedOf m word e

@@ -1,1 +1,2 @@
 pub mod Inspecting
+pub mod Statements

@@ -10,8 +10,10 @@ use Rattle.inspection.specs.declared.Inspected.{Inspected}
 
 unfoldable pub vectorInspected : VectorPlan → ℕ → List ℕ → List ℕ → ℕ → Inspected
 vectorInspected v vb z p e =
-    counted e (v .count) (vectorActive v (register (vb / 8) p (v .governing)) e) (vectorAddress v (register vb z (v .offsets)) e) (v .stored * vb + e * v .step) (v .size)
+    counted e (v .count) (vectorActive v (register (vb / 8) p (v .governing)) e) (vectorAddress v (register vb z (v .offsets)) e)
+    (v .stored * vb + e * v .step) (v .size)
 
 unfoldable pub stridedInspected : StridedPlan → ℕ → ℕ → Inspected
 stridedInspected s vb e =
-    counted e (s .nreg * s .per) (stridedActive s e) (stridedAddress s e) ((s .first + e / s .per * s .stride) * vb + e % s .per * s .step) (s .size)
+    counted e (s .nreg * s .per) (stridedActive s e) (stridedAddress s e)
+    ((s .first + e / s .per * s .stride) * vb + e % s .per * s .step) (s .size)

@@ -3,8 +3,6 @@ ghost use mathlib.Core.Path.{_≡_};
 ghost use mathlib.Core.Bool.{false};
 ghost use Prim.Native.Nat.{_*_, _<_};
 ghost use lib.ListN.{length};
-ghost use Rattle.encoding.specs.Classes.{classAt};
-ghost use Rattle.encoding.specs.Decoding.{storeOf};
 ghost use Rattle.encoding.specs.Encoding.{refused};
 ghost use Rattle.elements.specs.Machine.{machine};
 ghost use Rattle.elements.specs.Plans.{VectorSound, StridedSound};
@@ -13,9 +11,11 @@ ghost use Rattle.inspection.specs.Inspection.{inspectedAt, inspectedOf};
 ghost use Rattle.inspection.specs.Steps.{vectorInspected, stridedInspected};
 use elements::StridedPlan;
 use elements::VectorPlan;
+use encoding::Decoded;
+use encoding::Store;
 
-// What an element is: refused with 1, 2, or 4 for a word of no class; past the last of `count` elements; or one of them with its address, the
-// place of its first byte in the Z buffer and its bytes' number.
+// What an element is: refused with 1, 2, or 4 for a word of no class; past the last of `count` elements; or one of them with its
+// address, the place of its first byte in the Z buffer and its bytes' number.
 pub enum Inspected {
     Length,
     Registers,
@@ -78,10 +78,9 @@ fn inspect_strided(s: StridedPlan, vb: usize, e: u64) -> Inspected
     }
 }
 
-// Element e of the store of class k + 1 that a word is.
-fn inspect_at(
-    k: usize,
-    word: u32,
+// Element e of a decoded store.
+fn inspect_store(
+    store: Store,
     vb: usize,
     x: &[u64; 31],
     sp: u64,
@@ -89,21 +88,15 @@ fn inspect_at(
     p: &[u8],
     e: u64,
 ) -> Inspected
-    requires { ⌜ (k < 12) × (refused (storeOf (classAt k) word) ≡ false) ⌝ }
+    requires { ⌜ refused store ≡ false ⌝ }
     requires { ⌜ Sound vb (now z) (now p) ⌝ }
-    ensures { λ r. ⌜ r ≡ inspectedAt (machine vb (now (x .entry)) sp (now (z .entry)) (now (p .entry))) (storeOf (classAt k) word) e ⌝ }
+    ensures { λ r. ⌜ r ≡ inspectedAt (machine vb (now (x .entry)) sp (now (z .entry)) (now (p .entry))) store e ⌝ }
 {
-    let feature = encoding::table::feature_at(k);
-    if feature == 0 {
-        let f = encoding::scatter(k, word);
-        return inspect_vector(elements::scatter_plan(f, vb, x, sp), vb, z, p, e);
+    match store {
+        Store::Scatter(f) => inspect_vector(elements::scatter_plan(f, vb, x, sp), vb, z, p, e),
+        Store::Strided(f) => inspect_strided(elements::strided_plan(f, vb, x, sp, p), vb, e),
+        Store::Quadword(f) => inspect_vector(elements::quadword_plan(f, vb, x), vb, z, p, e),
     }
-    if feature == 1 {
-        let f = encoding::strided(k, word);
-        return inspect_strided(elements::strided_plan(f, vb, x, sp, p), vb, e);
-    }
-    let f = encoding::quadword(k, word);
-    inspect_vector(elements::quadword_plan(f, vb, x), vb, z, p, e)
 }
 
 // What element e of the word's store is on the lent machine.
@@ -127,9 +120,8 @@ pub fn inspect(
     if p.len() != 2 * vb {
         return Inspected::Registers;
     }
-    let k = encoding::table::index_of(word);
-    if encoding::table::CLASSES <= k {
-        return Inspected::Undefined;
+    match encoding::decode(word) {
+        Decoded::Known(store) => inspect_store(store, vb, x, sp, z, p, e),
+        Decoded::Undefined => Inspected::Undefined,
     }
-    inspect_at(k, word, vb, x, sp, z, p, e)
 }

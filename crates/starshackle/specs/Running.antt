@@ -1,9 +1,10 @@
 -- Flags as bits of a number, and what running answers in numbers. Assumes nothing.
-use Prim.Native.Nat.{ℕ, _/_, _%_, _^_}
+use Prim.Native.Nat.{ℕ, _/_, _%_}
 use mathlib.Core.Bool.{Bool}
-use mathlib.Core.List.{List}
+use mathlib.Core.List.{List, [], _∷_, map}
 use mathlib.Core.Path.{_≡_}
 use lib.Dec.{eqb}
+use Rattle.encoding.specs.Classes.{bit}
 use Rattle.elements.specs.Machine.{Machine}
 use Rattle.checks.specs.Verdicts.{number, numbers}
 use Rattle.checks.specs.declared.Flags.{Flags}
@@ -23,6 +24,14 @@ flagsOf n =
       «sp_check» = eqb (n / 32 % 2) 1;
       «sp_idle» = eqb (n / 64 % 2) 1;
     }
+
+-- a machine's flags in document 01's order
+abbrev pub flagsInOrder : Flags → List Bool
+flagsInOrder f = f .sve ∷ f .sme2 ∷ f .sve2p1 ∷ f .streaming ∷ f .fa64 ∷ f .«sp_check» ∷ f .«sp_idle» ∷ []
+
+-- they are the bits from 0 to 6
+abbrev pub FlagsAreBits : Type 0
+FlagsAreBits = (n : ℕ) → flagsInOrder (flagsOf n) ≡ map (λ i. eqb (bit n i) 1) (0 ∷ 1 ∷ 2 ∷ 3 ∷ 4 ∷ 5 ∷ 6 ∷ [])
 
 -- running a word's store on m and the window of mem at W answers n and ns, the numbers of its one answer, and leaves mem′
 pub record RanAs (f : Flags) (m : Machine) (W : ℕ) (mem : List ℕ) (word n : ℕ) (ns mem′ : List ℕ) : Type 0 where

@@ -14,6 +14,7 @@ ghost use Rattle.patch.specs.Judging.{judged};
 ghost use Rattle.codec.specs.Codec.{encodeGiven, encodedAnswers};
 ghost use Rattle.starshackle.specs.Patches.{AppliedAs, MadeAs};
 ghost use Rattle.starshackle.specs.Running.{flagsOf, RanAs};
+use encoding::Decoded;
 use encoding::Encoded;
 use patch::Applied;
 use patch::Judged;
@@ -27,13 +28,16 @@ pub extern "C" fn starshackle_decode(word: u32, fields: &mut [u64; 8]) -> u64
     ensures number { λ r. ⌜ r ≡ decodedNumber (decodeOf word) ⌝ }
     ensures numbers { λ _. ⌜ now (fields .exit) ≡ decodedNumbers (decodeOf word) ⌝ }
 {
-    let k = encoding::table::index_of(word);
-    if encoding::table::CLASSES <= k {
-        *fields = [0; 8];
-        return 4;
+    match encoding::decode(word) {
+        Decoded::Known(store) => {
+            *fields = codec::numbers_of(store);
+            0
+        }
+        Decoded::Undefined => {
+            *fields = [0; 8];
+            4
+        }
     }
-    *fields = codec::numbers_at(k, word);
-    0
 }
 
 // The word that eight numbers give: 0 and the word in the last answer, or 11; the other answers are 0.
@@ -69,7 +73,9 @@ pub extern "C" fn starshackle_run(
     word: u32,
     answer: &mut [u64; 5],
 ) -> u64
-    ensures { λ r. ⌜ RanAs (flagsOf flags) (machine vb (now (x .entry)) sp (now (z .entry)) (now (p .entry))) base (now (memory .entry)) word r (now (answer .exit)) (now (memory .exit)) ⌝ }
+    ensures { λ r.
+        ⌜ RanAs (flagsOf flags) (machine vb (now (x .entry)) sp (now (z .entry)) (now (p .entry))) base (now (memory .entry)) word r
+        (now (answer .exit)) (now (memory .exit)) ⌝ }
 {
     let v = running::run(vb, flags_of(flags), x, sp, z, p, base, memory, word);
     *answer = answers_of(v);
@@ -92,7 +98,9 @@ pub extern "C" fn starshackle_make_patch(
     patch: &mut [u8],
     answer: &mut [u64; 5],
 ) -> u64
-    ensures { λ r. ⌜ MadeAs (flagsOf flags) (machine vb (now (x .entry)) sp (now (z .entry)) (now (p .entry))) base length (now (patch .entry)) word r (now (answer .exit)) (now (patch .exit)) ⌝ }
+    ensures { λ r.
+        ⌜ MadeAs (flagsOf flags) (machine vb (now (x .entry)) sp (now (z .entry)) (now (p .entry))) base length (now (patch .entry)) word
+        r (now (answer .exit)) (now (patch .exit)) ⌝ }
 {
     let made = making::make_patch(vb, flags_of(flags), x, sp, z, p, base, length, word, patch);
     *answer = patches::answers_of(made);
@@ -112,7 +120,9 @@ pub extern "C" fn starshackle_element(
     answer: &mut [u64; 5],
 ) -> u64
     ensures number { λ r. ⌜ r ≡ inspectedNumber (inspectedOf (machine vb (now (x .entry)) sp (now (z .entry)) (now (p .entry))) word e) ⌝ }
-    ensures answers { λ _. ⌜ now (answer .exit) ≡ inspectedAnswers (inspectedOf (machine vb (now (x .entry)) sp (now (z .entry)) (now (p .entry))) word e) ⌝ }
+    ensures answers { λ _.
+        ⌜ now (answer .exit)
+        ≡ inspectedAnswers (inspectedOf (machine vb (now (x .entry)) sp (now (z .entry)) (now (p .entry))) word e) ⌝ }
 {
     let inspected = inspection::inspect(vb, x, sp, z, p, word, e);
     *answer = inspecting::answers_of(inspected);

@@ -26,6 +26,7 @@ the lowest run outside the window, or null), runs, payload_bytes.
 Exit status: 0 done, 1 refused by the model, 2 bad usage, or a file that can't be read or written.
 ",
     valued: &["--base", "--memory", "-o"],
+    switches: &[],
     run,
 };
 

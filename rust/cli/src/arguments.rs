@@ -3,6 +3,9 @@
 use crate::quote::shown;
 use std::ffi::{OsStr, OsString};
 
+/// The options that each subcommand takes.
+const COMMON: [&str; 2] = ["--json", "--help"];
+
 /// Bad usage: what is wrong and what was expected.
 #[derive(Debug, PartialEq, Eq)]
 pub struct Usage(pub String);
@@ -15,23 +18,28 @@ pub struct Arguments {
     pub operands: Vec<String>,
     /// The options with a value.
     values: Vec<(&'static str, String)>,
+    /// The options with none.
+    switches: Vec<&'static str>,
 }
 
 impl Arguments {
     /// Takes options wherever they stand, up to a `--`. Those in `valued` take the next word, or
-    /// what stands behind `=` in theirs.
+    /// what stands behind `=` in theirs; those in `switches` take nothing.
     pub fn read(
         words: impl IntoIterator<Item = OsString>,
         valued: &[&'static str],
+        switches: &[&'static str],
     ) -> Result<Arguments, Usage> {
         let (mut arguments, mut options) = (Arguments::default(), true);
         let mut words = words.into_iter();
         while let Some(word) = words.next() {
-            let option = valued.iter().copied().find(|option| options && word == *option);
-            if let Some(option) = option {
+            let named = |option: &&&'static str| options && word == **option;
+            if let Some(option) = valued.iter().find(named) {
                 arguments.put(option, words.next())?;
             } else if let Some((option, value)) = joined(&word, valued).filter(|_| options) {
                 arguments.put(option, Some(value.into()))?;
+            } else if let Some(option) = switches.iter().find(named) {
+                arguments.switches.push(option);
             } else if options && word == "--" {
                 options = false;
             } else if options && asks_for_help(&word) {
@@ -39,7 +47,8 @@ impl Arguments {
             } else if options && word == "--json" {
                 arguments.json = true;
             } else {
-                arguments.operands.push(operand(word, options, valued)?);
+                let expected = || one_of(valued.iter().chain(switches).copied().chain(COMMON));
+                arguments.operands.push(operand(word, options, expected)?);
             }
         }
         Ok(arguments)
@@ -52,6 +61,11 @@ impl Arguments {
         }
         self.values.push((option, utf_8(value)?));
         Ok(())
+    }
+
+    /// Whether an option that takes no value is given.
+    pub fn has(&self, option: &str) -> bool {
+        self.switches.contains(&option)
     }
 
     /// The value of an option that has to be given.
@@ -85,11 +99,10 @@ fn joined<'a>(word: &'a OsStr, valued: &[&'static str]) -> Option<(&'static str,
     Some((option, value))
 }
 
-fn operand(word: OsString, options: bool, valued: &[&str]) -> Result<String, Usage> {
+fn operand(word: OsString, options: bool, expected: impl Fn() -> String) -> Result<String, Usage> {
     let word = utf_8(word)?;
     if options && word.starts_with('-') {
-        let expected = one_of(valued.iter().copied().chain(["--json", "--help"]));
-        return Err(Usage(format!("unknown option {}; expected {expected}", shown(&word))));
+        return Err(Usage(format!("unknown option {}; expected {}", shown(&word), expected())));
     }
     Ok(word)
 }
@@ -107,11 +120,19 @@ pub fn unexpected(found: &str, expected: &str) -> Usage {
     Usage(format!("{}; expected {expected}", shown(found)))
 }
 
-/// The names as a message lists them.
+/// The names as a message lists them: one of them, or all.
 pub fn one_of<'a>(names: impl IntoIterator<Item = &'a str>) -> String {
+    listed(names, "or")
+}
+
+pub fn all_of<'a>(names: impl IntoIterator<Item = &'a str>) -> String {
+    listed(names, "and")
+}
+
+fn listed<'a>(names: impl IntoIterator<Item = &'a str>, before_last: &str) -> String {
     let mut names: Vec<&str> = names.into_iter().collect();
     match names.pop() {
-        Some(last) if !names.is_empty() => format!("{} or {last}", names.join(", ")),
+        Some(last) if !names.is_empty() => format!("{} {before_last} {last}", names.join(", ")),
         last => last.unwrap_or_default().to_string(),
     }
 }
@@ -121,12 +142,12 @@ mod tests {
     use super::*;
 
     fn read(words: &[&str]) -> Result<Arguments, Usage> {
-        Arguments::read(words.iter().map(OsString::from), &["-o", "--base"])
+        Arguments::read(words.iter().map(OsString::from), &["-o", "--base"], &["--all"])
     }
 
     fn arguments(help: bool, json: bool, operands: &[&str]) -> Arguments {
         let operands = operands.iter().map(|word| word.to_string()).collect();
-        Arguments { help, json, operands, values: Vec::new() }
+        Arguments { help, json, operands, ..Arguments::default() }
     }
 
     #[test]
@@ -161,6 +182,17 @@ mod tests {
     }
 
     #[test]
+    fn options_without_a_value() {
+        assert!(!read(&["a"]).unwrap().has("--all"));
+        let arguments = read(&["a", "--all", "--all"]).unwrap();
+        assert!(arguments.has("--all"));
+        assert_eq!(arguments.operand("a file"), Ok("a"));
+        assert!(!read(&["--", "--all"]).unwrap().has("--all"));
+        assert!(!read(&["-o", "--all"]).unwrap().has("--all"));
+        assert!(read(&["--all=a"]).is_err());
+    }
+
+    #[test]
     fn one_operand() {
         assert!(read(&[]).unwrap().operand("a file").is_err());
         assert!(read(&["a", "b"]).unwrap().operand("a file").is_err());
@@ -180,5 +212,6 @@ mod tests {
         assert_eq!(one_of(["a"]), "a");
         assert_eq!(one_of(["a", "b"]), "a or b");
         assert_eq!(one_of(["a", "b", "c"]), "a, b or c");
+        assert_eq!(all_of(["a", "b", "c"]), "a, b and c");
     }
 }

@@ -8,6 +8,8 @@ use std::fmt::{self, Display, Formatter};
 pub struct Class {
     pub name: &'static str,
     pub fields: &'static [Field],
+    /// How many vector registers a store of the class has.
+    pub registers: usize,
 }
 
 /// A name for an entry of a store. Some entries have two, of which a class has one.
@@ -39,15 +41,15 @@ pub enum Value {
 }
 
 const CLASS: Field = field("class", "class", Entry::Class);
-const ZM: Field = field("Zm", "zm", Entry::Index);
-const RM: Field = field("Rm", "rm", Entry::Index);
+pub const ZM: Field = field("Zm", "zm", Entry::Index);
+pub const RM: Field = field("Rm", "rm", Entry::Index);
 const XS: Field = field("xs", "extension", Entry::Extension);
-const PG: Field = field("Pg", "pg", Entry::Predicate);
+pub const PG: Field = field("Pg", "pg", Entry::Predicate);
 pub const PC: Field = field("Pc", "pc", Entry::Predicate);
-const RN: Field = field("Rn", "rn", Entry::Base);
-const ZN: Field = field("Zn", "zn", Entry::Base);
-const ZT: Field = field("Zt", "zt", Entry::Register);
-const FIRST: Field = field("first register", "first", Entry::Register);
+pub const RN: Field = field("Rn", "rn", Entry::Base);
+pub const ZN: Field = field("Zn", "zn", Entry::Base);
+pub const ZT: Field = field("Zt", "zt", Entry::Register);
+pub const FIRST: Field = field("first register", "first", Entry::Register);
 const MULTIPLE: Field = field("multiple", "multiple", Entry::Multiple);
 
 /// Every field.
@@ -68,10 +70,10 @@ const CLASSES: &[Class] = &[
     class("ST1B, 32-bit unpacked", EXTENDED),
     class("ST1B, 32-bit", EXTENDED),
     class("ST1B, 64-bit", SCATTER),
-    class("ST1D strided, two, scalar", SCALAR),
-    class("ST1D strided, four, scalar", SCALAR),
-    class("ST1D strided, two, immediate", IMMEDIATE),
-    class("ST1D strided, four, immediate", IMMEDIATE),
+    strided("ST1D strided, two, scalar", SCALAR, 2),
+    strided("ST1D strided, four, scalar", SCALAR, 4),
+    strided("ST1D strided, two, immediate", IMMEDIATE, 2),
+    strided("ST1D strided, four, immediate", IMMEDIATE, 4),
     class("ST1Q", QUADWORD),
 ];
 
@@ -83,7 +85,11 @@ const fn field(label: &'static str, name: &'static str, entry: Entry) -> Field {
 }
 
 const fn class(name: &'static str, fields: &'static [Field]) -> Class {
-    Class { name, fields }
+    strided(name, fields, 1)
+}
+
+const fn strided(name: &'static str, fields: &'static [Field], registers: usize) -> Class {
+    Class { name, fields, registers }
 }
 
 /// The class of a number, if it has a name.

@@ -11,6 +11,8 @@ pub struct Command {
     pub help: &'static str,
     /// The options that take a value.
     pub valued: &'static [&'static str],
+    /// The options that take none, besides --json and --help.
+    pub switches: &'static [&'static str],
     pub run: fn(&Arguments) -> Result<Report, Failure>,
 }
 

@@ -25,6 +25,7 @@ assembly. They are null where there is nothing to say. The fields have the names
 Exit status: 0 all words decode, 1 one is undefined, 2 bad usage.
 ",
     valued: &[],
+    switches: &[],
     run,
 };
 

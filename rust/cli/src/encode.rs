@@ -37,6 +37,7 @@ null where there is none.
 Exit status: 0 there is a word, 1 there is none, 2 bad usage.
 ",
     valued: &[],
+    switches: &[],
     run,
 };
 

@@ -2,7 +2,10 @@
 
 use crate::classes::{self, Class, Field, PC};
 use crate::json::Json;
+use crate::reads;
+use crate::register::Register;
 use starshackle::{assembly, Refusal, Store};
+use std::collections::BTreeSet;
 
 /// A store with its class.
 pub struct Known {
@@ -26,6 +29,11 @@ impl Known {
         let store = starshackle::decode(word)?;
         let class = classes::numbered(store.class).expect("each of the model's classes has a name");
         Ok(Known { store, class })
+    }
+
+    /// The registers that the store reads.
+    pub fn registers(&self) -> BTreeSet<Register> {
+        reads::registers(self.class, &self.store)
     }
 
     pub fn text(&self) -> String {

@@ -17,11 +17,14 @@ mod fields;
 mod input;
 mod json;
 mod known;
+mod missing;
 mod numbers;
 mod output;
 mod patch;
 mod picture;
 mod quote;
+mod reads;
+mod register;
 mod run;
 mod show;
 mod verdicts;
@@ -68,7 +71,7 @@ fn asks_for_help(first: &OsString) -> bool {
 }
 
 fn call(command: &Command, words: impl Iterator<Item = OsString>) -> Result<Report, Failure> {
-    let arguments = Arguments::read(words, command.valued)?;
+    let arguments = Arguments::read(words, command.valued, command.switches)?;
     if arguments.help {
         return Ok(Report::new(command.help.to_string(), false));
     }

@@ -4,6 +4,7 @@ use crate::arguments::Arguments;
 use crate::command::{Command, Failure, Report};
 use crate::json::Json;
 use crate::known::{self, Known};
+use crate::missing::{Missing, REQUIRE};
 use crate::picture::picture;
 use crate::store::{self, Described};
 use crate::{numbers, verdicts};
@@ -14,30 +15,35 @@ pub const COMMAND: Command = Command {
     summary: "runs the store that a file describes and shows what it did",
     help: concat!(
         "\
-usage: starshackle run [--json] FILE
+usage: starshackle run [--json] [--require-registers] FILE
 
 Shows the verdict with its detail and counts, the word's store, each element with its state,
 address and bytes, and the window, with the bytes that active elements have written in brackets.
 Of a long window only the lines with written bytes and their neighbours are shown.
-All this is the proved model's answer. The assembly text is not proved.
+All this is the proved model's answer. The assembly text and the note about registers that aren't
+given are not proved.
 
 ",
         store_help!(),
         "
 With --json the answer is an object. Its keys: word, verdict, verdict_name, class, class_name,
-fields, counter, assembly (as in `starshackle decode`), detail (element and address of a fault),
-active_elements, bytes_moved, elements (each with element, active, address, bytes), window (address,
-length, memory). They are null where there is nothing to say.
+fields, counter, assembly (as in `starshackle decode`), not_given (the note's registers), detail
+(element and address of a fault), active_elements, bytes_moved, elements (each with element, active,
+address, bytes), window (address, length, memory). They are null where there is nothing to say.
 
-Exit status: 0 done, 1 refused by the model, 2 bad usage or an unreadable file.
+Exit status: 0 done, 1 refused by the model, 2 bad usage, an unreadable file, or a register that is
+required and not given.
 "
     ),
     valued: &[],
+    switches: &[REQUIRE],
     run,
 };
 
 fn run(arguments: &Arguments) -> Result<Report, Failure> {
-    let answer = Answer::of(store::read(arguments.operand(store::EXPECTED)?)?);
+    let file = arguments.operand(store::EXPECTED)?;
+    let answer = Answer::of(store::read(file)?);
+    answer.missing.check(arguments, file)?;
     let text = if arguments.json { format!("{}\n", answer.json()) } else { answer.text() };
     Ok(Report::new(text, answer.outcome.is_err()))
 }
@@ -47,6 +53,7 @@ struct Answer {
     word: Option<u32>,
     known: Option<Known>,
     outcome: Result<Ran, Refusal>,
+    missing: Missing,
     elements: Vec<Row>,
     base: u64,
     length: u64,
@@ -68,16 +75,16 @@ impl Answer {
             Ok(word) => (starshackle::run(&machine, window, word), rows(&machine, word)),
             Err(refusal) => (Err(refusal), Vec::new()),
         };
-        let word = word.ok();
-        let known = word.and_then(|word| Known::decode(word).ok());
-        Answer { word, known, outcome, elements, base, length, memory }
+        let missing = Missing::of(word, &registers, &outcome);
+        let (word, known) = (word.ok(), word.and_then(Known::decode).ok());
+        Answer { word, known, outcome, missing, elements, base, length, memory }
     }
 
     fn text(&self) -> String {
         let counts = |ran: &Ran| verdicts::counts(ran.elements, ran.bytes);
         let parts = [self.store_text(), self.elements_text(), self.window_text()];
         let parts: String = parts.into_iter().flatten().map(|part| format!("\n{part}")).collect();
-        verdicts::text(&self.outcome, counts) + &parts
+        verdicts::text(&self.outcome, counts) + &self.missing.text() + &parts
     }
 
     fn store_text(&self) -> Option<String> {
@@ -142,6 +149,7 @@ impl Answer {
         members.extend(known::members(self.known.as_ref()));
         let rows = self.elements.iter().enumerate().map(|(number, row)| row.json(number));
         members.extend([
+            ("not_given", self.missing.json()),
             ("detail", verdicts::detail_json(&self.outcome)),
             ("active_elements", elements.into()),
             ("bytes_moved", bytes.into()),

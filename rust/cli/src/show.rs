@@ -30,6 +30,7 @@ accepted, null for a patch).
 Exit status: 0 a patch, 1 none, 2 bad usage or an unreadable file.
 ",
     valued: &[],
+    switches: &[],
     run,
 };
 

@@ -52,6 +52,17 @@ fn the_readme_shows_the_first_answer() {
     assert!(readme.contains(&block), "{block}");
 }
 
+/// Only one leaves out a register that its store reads, to show what is said of it.
+#[test]
+fn examples_give_every_register() {
+    let folder = Path::new(env!("CARGO_MANIFEST_DIR")).join("../../examples");
+    for file in fs::read_dir(folder).unwrap().map(|entry| entry.unwrap().path()) {
+        let output = command(&["run", "--require-registers"]).arg(&file).output().unwrap();
+        let forgets = file.ends_with("forgotten-register.store");
+        assert_eq!(output.status.code() == Some(2), forgets, "{}", file.display());
+    }
+}
+
 #[cfg(target_os = "linux")]
 #[test]
 fn a_full_disk_is_told() {
@@ -79,9 +90,13 @@ fn a_reader_that_leaves() {
 /// A pipe into a process that is gone.
 #[cfg(unix)]
 fn closed_pipe() -> std::process::ChildStdin {
+    use std::io::Write;
+
     let mut reader = Command::new("true").stdin(Stdio::piped()).spawn().unwrap();
-    let pipe = reader.stdin.take().unwrap();
+    let mut pipe = reader.stdin.take().unwrap();
     reader.wait().unwrap();
+    // A process of another test has the reading end too until it becomes its program.
+    while pipe.write(&[0]).is_ok() {}
     pipe
 }
 
@@ -90,6 +105,7 @@ fn closed_pipe() -> std::process::ChildStdin {
 #[test]
 fn a_reader_that_leaves_before_a_file_is_written() {
     let out = Path::new(env!("CARGO_TARGET_TMPDIR")).join("unread.patch");
+    let _ = fs::remove_file(&out);
     let store = concat!(env!("CARGO_MANIFEST_DIR"), "/../../examples/whole.store");
     let mut patch = command(&["patch", store, "-o", out.to_str().unwrap()]);
     let child = patch.stdout(closed_pipe()).stderr(Stdio::piped()).spawn().unwrap();

@@ -167,6 +167,20 @@ fn an_output_replaces_the_old_file() {
 }
 
 #[test]
+fn no_output_without_a_register_that_is_required() {
+    let folder = folder("required");
+    fs::write(folder.join("out"), b"old").unwrap();
+    for out in ["out", "new"] {
+        let mut patch = command(&folder, "patch --require-registers -o");
+        let output = patch.arg(out).arg(example("forgotten-register")).output().unwrap();
+        assert_eq!(status(&output), 2, "{out}");
+        assert!(output.stdout.is_empty(), "{out}");
+    }
+    assert_eq!(fs::read(folder.join("out")).unwrap(), b"old");
+    assert_eq!(names(&folder), ["out"]);
+}
+
+#[test]
 fn no_output_in_a_folder_that_is_missing() {
     let folder = folder("missing");
     for out in ["none/out", "none/", ".", ".."] {

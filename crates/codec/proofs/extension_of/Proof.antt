@@ -1,4 +1,4 @@
--- By its number. Assumes nothing.
+-- `extension_of`: by its number. Assumes nothing.
 use Rattle.codec.proofs.Given.{given-none, given-uxtw, given-sxtw}
 use Rattle.codec.proofs.extension_of.Statement.{statement}
 use Rattle.codec.proofs.extension_of.Tie as tie

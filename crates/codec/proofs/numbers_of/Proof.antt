@@ -1,12 +1,11 @@
--- By its case. Assumes nothing.
+-- `numbers_of`: by its case. Assumes nothing.
 use mathlib.Core.Path.{_∙_, ap, sym}
 use mathlib.Core.List.{_∷_, []}
 use Prim.Native.Nat.{ℕ}
 use native.Mathlib.Omega.{arith}
 use mir.Syntax.{w64}
-use mir.Val.{SFits, ofZ}
+use mir.Val.{ofZ}
 use mir.Facts.{toZ-ofZ}
-use lib.IntN.{ℤ}
 use Rattle.encoding.specs.Answers.{storeNumbers}
 use borrow.Author.Needs.{needs}
 use Rattle.codec.proofs.numbers_of.Statement.{statement}

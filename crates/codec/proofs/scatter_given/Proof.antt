@@ -1,6 +1,4 @@
--- Entry by entry. Assumes nothing.
-use mathlib.Core.Path.{ap}
-use Rattle.encoding.specs.declared.Extension.{Extension}
+-- `scatter_given`: entry by entry. Assumes nothing.
 use Rattle.encoding.specs.declared.Store.the-variants.{Scatter}
 use Rattle.codec.specs.Codec.{entry}
 use borrow.Author.Needs.{needs}
@@ -45,9 +43,18 @@ cast-t25 c = search needs
 
 returns : tie.Need-returns
 returns c =
-    let es = c .before .before .before .before .before .before .before .args .fields .now in
-    ap (λ (x : Extension). Scatter (record { class = entry es 0; zm = entry es 1; extension = x; pg = entry es 3; rn = entry es 4; zt = entry es 5 }))
-    (c .before .before .before .extension-of .ensures)
+    let x = c .before .before .before in
+    let es = x .before .before .before .before .args .fields .now in
+    λ i.
+    Scatter
+    (record {
+      class = entry es 0;
+      zm = entry es 1;
+      extension = x .extension-of .ensures i;
+      pg = entry es 3;
+      rn = entry es 4;
+      zt = entry es 5;
+    })
 
 pub scatter-given-spec : {M : Type 1} → statement M
 scatter-given-spec =

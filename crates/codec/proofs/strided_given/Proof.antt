@@ -1,6 +1,5 @@
--- Entry by entry. Assumes nothing.
-use mathlib.Core.Path.{_∙_, ap}
-use lib.IntN.{ℤ}
+-- `strided_given`: entry by entry. Assumes nothing.
+use mathlib.Core.Path.{_∙_}
 use mir.Syntax.{w64}
 use mir.Facts.{toZ-ofZ}
 use Rattle.encoding.specs.declared.Store.the-variants.{Strided}
@@ -47,10 +46,20 @@ cast-t25 c = search needs
 
 returns : tie.Need-returns
 returns c =
-    let es = c .before .before .before .before .before .before .before .args .fields .now in
-    let m = c .before .before .before .signed-of in
-    ap (λ (z : ℤ). Strided (record { class = entry es 0; rm = entry es 1; multiple = z; pc = entry es 3; rn = entry es 4; first = entry es 5 }))
-    (toZ-ofZ {w = w64} {z = m .result} (record { sfits = m .ok }) ∙ m .ensures)
+    let x = c .before .before .before in
+    let es = x .before .before .before .before .args .fields .now in
+    let m = x .signed-of in
+    let z = toZ-ofZ {w = w64} {z = m .result} (record { sfits = m .ok }) ∙ m .ensures in
+    λ i.
+    Strided
+    (record {
+      class = entry es 0;
+      rm = entry es 1;
+      multiple = z i;
+      pc = entry es 3;
+      rn = entry es 4;
+      first = entry es 5;
+    })
 
 pub strided-given-spec : {M : Type 1} → statement M
 strided-given-spec =

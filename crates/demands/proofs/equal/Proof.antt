@@ -1,6 +1,6 @@
--- The bytes passed are the same. Assumes nothing.
+-- `equal`: byte by byte, behind a test of the lengths. Invariant: the bytes before i are the same. Assumes nothing.
 use mathlib.Core.Path.{_≡_, refl, sym, ap, _∙_}
-use Prim.Native.Nat.{ℕ, _+_, _-_, _≤_, _<_}
+use Prim.Native.Nat.{ℕ, _-_, _<_}
 use native.Mathlib.Omega.{arith}
 use lib.ListN.{length, getD}
 use lib.Seq.{ext-getD}
@@ -37,14 +37,20 @@ loop-less c = omega arith
 
 loop-again : tie.Need-loop-again Inv-loop μ-loop
 loop-again c =
-    let l = c .before .before .before .before .loop in
+    let t = c .before .before .before .before in
+    let l = t .loop in
+    let g = t .before .before .args in
     λ j h.
     three j (l .i) (λ q. l .inv j q)
-    (λ q. ap (λ (k : ℕ). getD (c .before .before .before .before .before .before .args .a .now) k 0) q ∙ c .if2 .left ∙ ap (λ (k : ℕ). getD (c .before .before .before .before .before .before .args .b .now) k 0) (sym q))
+    (λ q. ap (λ (k : ℕ). getD (g .a .now) k 0) q ∙ c .if2 .left ∙ ap (λ (k : ℕ). getD (g .b .now) k 0) (sym q))
     (λ q. absurd (omega arith))
 
 returns-3 : tie.Need-returns-3 Inv-loop μ-loop
-returns-3 c = (λ t. ext-getD 0 (c .before .before .before .args .a .now) (c .before .before .before .args .b .now) (c .before .before .if1 .left) (λ j h. c .before .loop .inv j (omega (arith, c .loop-test .left))), λ e. refl)
+returns-3 c =
+    let t = c .before .before in
+    let g = t .before .args in
+    let i = c .before .loop .inv in
+    (λ _. ext-getD 0 (g .a .now) (g .b .now) (t .if1 .left) (λ j h. i j (omega (arith, c .loop-test .left))), λ e. refl)
 
 pub equal-spec : {M : Type 1} → statement M
 equal-spec =

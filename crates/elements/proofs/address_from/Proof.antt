@@ -1,4 +1,4 @@
--- A scaled offset added, modulo 2^64. Assumes nothing.
+-- `address_from`: a scaled offset added to the base, modulo 2^64. No loop. Assumes nothing.
 use mathlib.Core.Path.{_≡_, ap, _∙_}
 use Prim.Native.Nat.{ℕ, _+_, _*_, _%_, _^_}
 use native.Mathlib.Omega.{arith}

@@ -1,4 +1,4 @@
--- The byte that holds it, and its place there. Assumes nothing.
+-- `bit`: the byte that holds it, and its place there. No loop. Assumes nothing.
 use Rattle.elements.proofs.Leaves.{bit-is}
 use borrow.Author.Needs.{needs}
 use Rattle.elements.proofs.bit.Statement.{statement}
@@ -14,7 +14,7 @@ shr-result : tie.Need-shr-result
 shr-result c = search needs
 
 returns : tie.Need-returns
-returns c = bit-is (c .before .before .before .args .s .now) (c .before .before .before .args .i) (c .wide .result) (c .wide .ensures .0)
+returns c = let a = c .before .before .before .args in bit-is (a .s .now) (a .i) (c .wide .result) (c .wide .ensures .0)
 
 pub bit-spec : {M : Type 1} → statement M
 bit-spec = tie.close (tie.spec shared-slice-read-wide wide-requires shr-result returns)

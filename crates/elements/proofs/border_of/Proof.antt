@@ -1,6 +1,8 @@
--- The count in units, in eights. Assumes nothing.
-use Prim.Native.Nat.{_*_, _^_}
+-- `border_of`: the count in units, in eights, rounded up. No loop. Assumes nothing.
+use Prim.Native.Nat.{_+_, _/_, _^_, _<_}
+use mathlib.Core.Path.{_≡_}
 use native.Mathlib.Omega.{arith}
+use Rattle.elements.specs.Plans.{borderOf}
 use Rattle.elements.proofs.Ranges.{border-is}
 use borrow.Author.Needs.{needs}
 use Rattle.elements.proofs.border_of.Statement.{statement}
@@ -15,17 +17,20 @@ counted-requires c κs = search needs
 scaled-requires : tie.Need-scaled-requires
 scaled-requires c κs = search needs
 
+-- the border, and that what is divided is small
+border : (c : tie.After-scaled)
+    → ((c .scaled .result + 7) / 8 ≡ borderOf (c .before .before .before .args .v)) × (c .scaled .result < 2 ^ 15)
+border c =
+    let k = c .before in
+    let s = k .before in
+    border-is (s .before .args .v) (s .lowest-set .result) (k .counted .result) (c .scaled .result) (s .lowest-set .ensures .0)
+    (k .counted .ensures) (c .scaled .ensures)
+
 add-result : tie.Need-add-result
-add-result c =
-    let s = c .before .before .lowest-set in
-    let k = c .before .counted in
-    omega (arith, border-is (c .before .before .before .args .v) (s .result) (k .result) (c .scaled .result) (s .ensures .0) (k .ensures) (c .scaled .ensures) .1)
+add-result c = omega (arith, border c .1)
 
 returns : tie.Need-returns
-returns c =
-    let s = c .before .before .lowest-set in
-    let k = c .before .counted in
-    omega (arith, border-is (c .before .before .before .args .v) (s .result) (k .result) (c .scaled .result) (s .ensures .0) (k .ensures) (c .scaled .ensures) .0)
+returns c = omega (arith, border c .0)
 
 pub border-of-spec : {M : Type 1} → statement M
 border-of-spec =

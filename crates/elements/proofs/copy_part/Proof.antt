@@ -1,17 +1,18 @@
--- One register's part of the active elements, over its place among their bytes. Assumes nothing.
+-- `copy_part`: the part's bytes in register r, over their place among the active elements' bytes. No loop. Assumes nothing.
 use mathlib.Core.List.{List}
 use mathlib.Core.Path.{_≡_, sym, ap, _∙_}
 use Prim.Native.Nat.{ℕ, _+_, _-_, _*_, _≤_}
 use native.Mathlib.Omega.{arith}
 use lib.ListN.{length, take, drop}
 use Rattle.writes.proofs.Parts.{part-is, part-length, part-over}
-use Rattle.elements.specs.Plans.{stridedElement, bytesFrom}
-use Rattle.elements.proofs.Moving.{all-small, row-below, row-fits, row-long, part-in, part-out, part-bytes, part-long}
+use Rattle.elements.specs.Plans.{PartOf, stridedElement, bytesFrom}
+use Rattle.elements.proofs.Moving.{all-small, row-long, part-in, part-out, part-bytes, part-long}
 use borrow.Author.Needs.{needs}
 use Rattle.elements.proofs.copy_part.Statement.{statement}
 use Rattle.elements.proofs.copy_part.Tie as tie
 
--- its bytes, their place in the register, and that among the active elements' bytes
+-- ---- the part: how many bytes, where they are in the register, and where among the active elements' bytes
+
 abbrev n : tie.Start → ℕ
 n a = (a .args .to - a .args .e) * a .args .s .size
 
@@ -21,12 +22,18 @@ from a = (a .args .e - a .args .r * a .args .s .per) * a .args .s .step
 abbrev at : tie.Start → ℕ
 at a = (a .args .e - a .args .s .low) * a .args .s .size
 
+abbrev its-bytes : tie.Start → List ℕ
+its-bytes a = bytesFrom (stridedElement (a .args .s) (a .args .vb) (a .args .z .now)) (a .args .to - a .args .e) (a .args .e)
+
+its : (a : tie.Start) → PartOf (a .args .s) (a .args .r) (a .args .e) (a .args .to)
+its a = a .pre .1 .1 .0
+
 in-register : (a : tie.Start) → from a + n a ≤ a .args .vb
-in-register a = part-in (a .args .s) (a .args .vb) (a .pre .0) (a .args .r) (a .args .e) (a .args .to) (a .pre .1 .1 .0)
+in-register a = part-in (a .args .s) (a .args .vb) (a .pre .0) (a .args .r) (a .args .e) (a .args .to) (its a)
 
 in-out : (a : tie.Start) → at a + n a ≤ length (a .args .out .now)
 in-out a =
-    omega (arith, part-out (a .args .s) (a .args .vb) (a .pre .0) (a .args .r) (a .args .e) (a .args .to) (a .pre .1 .1 .0), a .pre .1 .1 .1)
+    omega (arith, part-out (a .args .s) (a .args .vb) (a .pre .0) (a .args .r) (a .args .e) (a .args .to) (its a), a .pre .1 .1 .1)
 
 small : (a : tie.Start) → from a + n a ≤ 256
 small a = omega (arith, in-register a, a .pre .0 .high)
@@ -34,8 +41,7 @@ small a = omega (arith, in-register a, a .pre .0 .high)
 small-out : (a : tie.Start) → at a + n a ≤ 1024 * 256
 small-out a = omega (arith, in-out a, a .pre .1 .1 .1, all-small (a .args .s) (a .args .vb) (a .pre .0))
 
-its-long : (a : tie.Start) (q : List ℕ) → q ≡ take (a .args .vb) (drop ((a .args .s .first + a .args .r * a .args .s .stride) * a .args .vb) (a .args .z .now)) → length q ≡ a .args .vb
-its-long a q e = ap length e ∙ row-long (a .args .s) (a .args .vb) (a .pre .0) (a .args .r) (a .pre .1 .1 .0 .row) (a .args .z .now) (a .pre .1 .0)
+-- ---- the numbers
 
 sub-n : tie.Need-sub-n
 sub-n c = search needs
@@ -49,35 +55,38 @@ mul-from c = search needs
 sub-from : tie.Need-sub-from
 sub-from c = search needs
 
+-- from where they are decided back to the entry
+abbrev entry : tie.After-struct-known3 → tie.Start
+entry c = c .before .before .before .before .before
+
+abbrev entry-out : tie.After-struct-known5 → tie.Start
+entry-out c = entry (c .before .before)
+
 mul-from-2 : tie.Need-mul-from-2
-mul-from-2 c = omega (arith, small (c .before .before .before .before .before))
+mul-from-2 c = omega (arith, small (entry c))
 
 add-end : tie.Need-add-end
-add-end c = omega (arith, small (c .before .before .before .before .before))
+add-end c = omega (arith, small (entry c))
 
 sub-at : tie.Need-sub-at
 sub-at c = search needs
 
 mul-at : tie.Need-mul-at
-mul-at c = omega (arith, small-out (c .before .before .before .before .before .before .before))
+mul-at c = omega (arith, small-out (entry-out c))
 
 add-until : tie.Need-add-until
-add-until c = omega (arith, small-out (c .before .before .before .before .before .before .before))
+add-until c = omega (arith, small-out (entry-out c))
 
-mul-register-of : tie.Need-mul-register-of
-mul-register-of c =
-    let a = c .before .before .before .before .before .before .before .before in
-    omega (arith, row-below (a .args .s) (a .args .vb) (a .pre .0) (a .args .r) (a .pre .1 .1 .0 .row))
+row-of-requires : tie.Need-row-of-requires
+row-of-requires c κs = let a = entry-out c in (a .pre .0, (a .pre .1 .0, its a .row))
 
-add-register-of : tie.Need-add-register-of
-add-register-of c =
-    let a = c .before .before .before .before .before .before .before .before .before in
-    omega (arith, row-below (a .args .s) (a .args .vb) (a .pre .0) (a .args .r) (a .pre .1 .1 .0 .row))
+-- ---- the copy
 
-register-of-requires : tie.Need-register-of-requires
-register-of-requires c κs =
-    let a = c .before .before .before .before .before .before .before .before .before in
-    row-fits (a .args .s) (a .args .vb) (a .pre .0) (a .args .r) (a .pre .1 .1 .0 .row) (length (a .args .z .now)) (a .pre .1 .0)
+row-is : (c : tie.After-row-of) → length (c .row-of .result .now) ≡ entry-out (c .before) .args .vb
+row-is c =
+    let a = entry-out (c .before) in
+    ap length (c .row-of .ensures)
+    ∙ row-long (a .args .s) (a .args .vb) (a .pre .0) (a .args .r) (its a .row) (a .args .z .now) (a .pre .1 .0)
 
 sub-copy : tie.Need-sub-copy
 sub-copy c = search needs
@@ -86,7 +95,7 @@ part-copy-start : tie.Need-part-copy-start
 part-copy-start c = search needs
 
 part-copy-end : tie.Need-part-copy-end
-part-copy-end c = in-out (c .before .before .before .before .before .before .before .before .before .before)
+part-copy-end c = in-out (entry-out (c .before))
 
 sub-copy-2 : tie.Need-sub-copy-2
 sub-copy-2 c = search needs
@@ -95,15 +104,13 @@ part-copy-start-2 : tie.Need-part-copy-start-2
 part-copy-start-2 c = search needs
 
 part-copy-end-2 : tie.Need-part-copy-end-2
-part-copy-end-2 c =
-    let a = c .before .before .before .before .before .before .before .before .before .before .before in
-    omega (arith, in-register a, its-long a (c .before .register-of .result .now) (c .before .register-of .ensures))
+part-copy-end-2 c = omega (arith, in-register (entry-out (c .before .before)), row-is (c .before))
 
 copy-requires : tie.Need-copy-requires
 copy-requires c κs =
-    let a = c .before .before .before .before .before .before .before .before .before .before .before .before in
-    let g = c .before .before .register-of in
-    part-length (g .result .now) (from a) (n a) (omega (arith, in-register a, its-long a (g .result .now) (g .ensures)))
+    let g = c .before .before in
+    let a = entry-out (g .before) in
+    part-length (g .row-of .result .now) (from a) (n a) (omega (arith, in-register a, row-is g))
     ∙ sym (part-length (a .args .out .now) (at a) (n a) (in-out a))
 
 same-length : tie.Need-same-length
@@ -111,13 +118,15 @@ same-length c = search needs
 
 returns : tie.Need-returns
 returns c =
-    let a = c .before .before .before .before .before .before .before .before .before .before .before .before .before .before .before in
-    let g = c .before .before .before .before .before .register-of in
-    let k = c .before .before .copy in
-    part-over (a .args .out .now) (at a) (n a) (k .last .0) (bytesFrom (stridedElement (a .args .s) (a .args .vb) (a .args .z .now)) (a .args .to - a .args .e) (a .args .e))
-    (part-long (a .args .s) (a .args .vb) (a .pre .0) (a .args .r) (a .args .e) (a .args .to) (a .pre .1 .1 .0) (a .args .z .now) (a .pre .1 .0))
-    (k .ensures ∙ part-is (g .result .now) (from a) (n a) ∙ ap (λ (l : List ℕ). take (n a) (drop (from a) l)) (g .ensures)
-    ∙ sym (part-bytes (a .args .s) (a .args .vb) (a .pre .0) (a .args .r) (a .args .e) (a .args .to) (a .pre .1 .1 .0) (a .args .z .now)))
+    let k = c .before .before in
+    let g = k .before .before .before in
+    let a = entry-out (g .before) in
+    part-over (a .args .out .now) (at a) (n a) (k .copy .last .0) (its-bytes a)
+    (part-long (a .args .s) (a .args .vb) (a .pre .0) (a .args .r) (a .args .e) (a .args .to) (its a) (a .args .z .now) (a .pre .1 .0))
+    (k .copy .ensures
+    ∙ part-is (g .row-of .result .now) (from a) (n a)
+    ∙ ap (λ (l : List ℕ). take (n a) (drop (from a) l)) (g .row-of .ensures)
+    ∙ sym (part-bytes (a .args .s) (a .args .vb) (a .pre .0) (a .args .r) (a .args .e) (a .args .to) (its a) (a .args .z .now)))
 
 pub copy-part-spec : {M : Type 1} → statement M
 copy-part-spec =
@@ -132,9 +141,7 @@ copy-part-spec =
     sub-at
     mul-at
     add-until
-    mul-register-of
-    add-register-of
-    register-of-requires
+    row-of-requires
     sub-copy
     part-copy-start
     part-copy-end

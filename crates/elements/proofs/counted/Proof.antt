@@ -1,4 +1,4 @@
--- The number above the lowest set bit. Assumes nothing.
+-- `counted`: the number above the lowest set bit. No loop. Assumes nothing.
 use Rattle.elements.proofs.Leaves.{counted-is}
 use borrow.Author.Needs.{needs}
 use Rattle.elements.proofs.counted.Statement.{statement}

@@ -1,4 +1,4 @@
--- The bits of a small product, added. Assumes nothing.
+-- `displaced`: the bits of a small product, added. No loop. Assumes nothing.
 use mathlib.Core.Path.{ap, _∙_}
 use Prim.Native.Nat.{ℕ, _+_, _%_, _^_}
 use Rattle.elements.proofs.Bits.{product-fits, product-bits}

@@ -1,20 +1,26 @@
--- The class's numbers and the store's fields. Assumes nothing.
-use Rattle.encoding.specs.Classes.{classes}
-use Rattle.elements.proofs.Shapes.{quadword-in}
+-- `quadword_plan`: the class's numbers and the store's fields. No loop. Assumes nothing.
+use mathlib.Core.Path.{ap, _∙_}
+use Rattle.encoding.specs.Encoding.{classFor}
+use Rattle.encoding.specs.Layouts.{layoutOf}
+use Rattle.encoding.specs.declared.Store.the-variants.{Quadword}
+use Rattle.encoding.proofs.Statements.{listed, class-numbered}
+use Rattle.elements.proofs.Shapes.{QuadwordIn, quadword-in}
 use Rattle.elements.proofs.Planning.{quadword-planned}
 use borrow.Author.Needs.{needs}
 use Rattle.elements.proofs.quadword_plan.Statement.{statement}
 use Rattle.elements.proofs.quadword_plan.Tie as tie
 
+fields : (a : tie.Start) → QuadwordIn (a .args .f) (classFor (Quadword (a .args .f)))
+fields a = quadword-in (a .args .f) (a .pre .0)
+
 layout-for-requires : tie.Need-layout-for-requires
-unfolding classes
-layout-for-requires c κs = quadword-in (c .args .f) (c .pre .0) .row
+layout-for-requires c κs = listed (Quadword (c .args .f)) (c .pre .0)
 
 general-requires : tie.Need-general-requires
-general-requires c κs = quadword-in (c .before .args .f) (c .before .pre .0) .rm
+general-requires c κs = fields (c .before) .rm
 
-cast-step : tie.Need-cast-step
-cast-step c = search needs
+cast-quadword : tie.Need-cast-quadword
+cast-quadword c = search needs
 
 cast-t8 : tie.Need-cast-t8
 cast-t8 c = search needs
@@ -33,10 +39,12 @@ cast-t12 c = search needs
 
 returns : tie.Need-returns
 returns c =
-    let a = c .before .before .before .before .before .before .before in
-    let l = c .before .before .before .before .before .before .layout-for in
-    let g = c .before .before .before .before .before .general in
-    quadword-planned (a .args .vb) (a .args .x .now) _ (l .result) (l .ensures .0) (quadword-in (a .args .f) (a .pre .0) .eight) (g .result) (a .args .f) (g .ensures)
+    let g = c .before .before .before .before .before in
+    let l = g .before in
+    let a = l .before in
+    quadword-planned (a .args .vb) (a .args .x .now) _ (l .layout-for .result)
+    (l .layout-for .ensures .0 ∙ ap layoutOf (class-numbered (Quadword (a .args .f)) (a .pre .0))) (fields a .eight)
+    (g .general .result) (a .args .f) (g .general .ensures)
 
 pub quadword-plan-spec : {M : Type 1} → statement M
 quadword-plan-spec =
@@ -44,7 +52,7 @@ quadword-plan-spec =
     (tie.spec
     layout-for-requires
     general-requires
-    cast-step
+    cast-quadword
     cast-t8
     div-t9
     cast-t10

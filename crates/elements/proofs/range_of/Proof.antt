@@ -1,6 +1,6 @@
--- By the counter's low four bits, and by bit 15. Assumes nothing.
+-- `range_of`: by the counter's low four bits, and by bit 15. No loop. Assumes nothing.
 use mathlib.Core.Path.{_≡_}
-use Prim.Native.Nat.{ℕ, _%_, _^_, _≤_, _<_}
+use Prim.Native.Nat.{_%_, _^_, _≤_, _<_}
 use native.Mathlib.Omega.{arith}
 use Rattle.elements.proofs.Ranges.{low-empty, low-up, low-down, high-empty, high-up, high-down}
 use borrow.Author.Needs.{needs}

@@ -1,4 +1,4 @@
--- A part of the buffer. Assumes nothing.
+-- `register_of`: a part of the buffer. No loop. Assumes nothing.
 use Prim.Native.Nat.{_*_}
 use Rattle.elements.proofs.Leaves.{register-is}
 use borrow.Author.Needs.{needs}
@@ -21,7 +21,7 @@ part-result-end : tie.Need-part-result-end
 part-result-end c = search needs
 
 returns : tie.Need-returns
-returns c = register-is (c .before .args .s .now) (c .before .args .r * c .before .args .n) (c .before .args .n)
+returns c = let a = c .before .args in register-is (a .s .now) (a .r * a .n) (a .n)
 
 pub register-of-spec : {M : Type 1} → statement M
 register-of-spec =

@@ -1,17 +1,23 @@
--- The class's numbers and the store's fields. Assumes nothing.
-use Rattle.encoding.specs.Classes.{classes}
-use Rattle.elements.proofs.Shapes.{scatter-in}
+-- `scatter_plan`: the class's numbers and the store's fields. No loop. Assumes nothing.
+use mathlib.Core.Path.{ap, _∙_}
+use Rattle.encoding.specs.Encoding.{classFor}
+use Rattle.encoding.specs.Layouts.{layoutOf}
+use Rattle.encoding.specs.declared.Store.the-variants.{Scatter}
+use Rattle.encoding.proofs.Statements.{listed, class-numbered}
+use Rattle.elements.proofs.Shapes.{ScatterIn, scatter-in}
 use Rattle.elements.proofs.Planning.{scatter-planned}
 use borrow.Author.Needs.{needs}
 use Rattle.elements.proofs.scatter_plan.Statement.{statement}
 use Rattle.elements.proofs.scatter_plan.Tie as tie
 
+fields : (a : tie.Start) → ScatterIn (a .args .f) (classFor (Scatter (a .args .f)))
+fields a = scatter-in (a .args .f) (a .pre .0)
+
 layout-for-requires : tie.Need-layout-for-requires
-unfolding classes
-layout-for-requires c κs = scatter-in (c .args .f) (c .pre .0) .row
+layout-for-requires c κs = listed (Scatter (c .args .f)) (c .pre .0)
 
 general-requires : tie.Need-general-requires
-general-requires c κs = scatter-in (c .before .args .f) (c .before .pre .0) .rn
+general-requires c κs = fields (c .before) .rn
 
 cast-step : tie.Need-cast-step
 cast-step c = search needs
@@ -33,10 +39,12 @@ cast-t13 c = search needs
 
 returns : tie.Need-returns
 returns c =
-    let a = c .before .before .before .before .before .before .before in
-    let l = c .before .before .before .before .before .before .layout-for in
-    let g = c .before .before .before .before .before .general in
-    scatter-planned (a .args .vb) (a .args .x .now) _ (l .result) (l .ensures .0) (scatter-in (a .args .f) (a .pre .0) .eight) (a .args .sp) (g .result) (a .args .f) (g .ensures)
+    let g = c .before .before .before .before .before in
+    let l = g .before in
+    let a = l .before in
+    scatter-planned (a .args .vb) (a .args .x .now) _ (l .layout-for .result)
+    (l .layout-for .ensures .0 ∙ ap layoutOf (class-numbered (Scatter (a .args .f)) (a .pre .0))) (fields a .eight) (a .args .sp)
+    (g .general .result) (a .args .f) (g .general .ensures)
 
 pub scatter-plan-spec : {M : Type 1} → statement M
 scatter-plan-spec =

@@ -1,4 +1,4 @@
--- By the number of registers. Assumes nothing.
+-- `stride_of`: by the number of registers. No loop. Assumes nothing.
 use mathlib.Core.Path.{sym, ap}
 use mathlib.Core.Bool.{Bool, cond}
 use borrow.Author.Tests.{eq-eqb, ne-eqb}

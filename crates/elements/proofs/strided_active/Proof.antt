@@ -1,4 +1,4 @@
--- The range test. Assumes nothing.
+-- `strided_active`: the range test. No loop. Assumes nothing.
 use mathlib.Core.Path.{refl}
 use Rattle.elements.specs.Plans.{stridedActive}
 use Rattle.elements.proofs.strided_active.Statement.{statement}

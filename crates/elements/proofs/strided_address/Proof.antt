@@ -1,4 +1,4 @@
--- A sum modulo 2^64. Assumes nothing.
+-- `strided_address`: a sum modulo 2^64. No loop. Assumes nothing.
 use Rattle.elements.specs.Plans.{stridedAddress}
 use borrow.Author.Needs.{needs}
 use Rattle.elements.proofs.strided_address.Statement.{statement}

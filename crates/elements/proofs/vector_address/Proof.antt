@@ -1,4 +1,4 @@
--- By the place of its offset. Assumes nothing.
+-- `vector_address`: by the place of its offset. No loop. Assumes nothing.
 use Rattle.elements.specs.Plans.{vectorAddress}
 use borrow.Author.Needs.{needs}
 use Rattle.elements.proofs.vector_address.Statement.{statement}

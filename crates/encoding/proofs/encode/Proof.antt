@@ -1,4 +1,4 @@
--- By its case. Assumes nothing.
+-- `encode`: by the store's case. Assumes nothing.
 use mathlib.Core.Path.{_∙_, ap, sym}
 use Rattle.encoding.specs.Encoding.{encodeOf}
 use borrow.Author.Needs.{needs}

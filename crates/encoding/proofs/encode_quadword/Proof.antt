@@ -1,7 +1,7 @@
--- The tests of its fields, and their sum. Assumes nothing.
-use mathlib.Core.Path.{_≡_, _∙_, sym, ap}
+-- `encode_quadword`: the tests of its fields, and their sum. Assumes nothing.
 use Rattle.encoding.specs.declared.Store.the-variants.{Quadword}
-use Rattle.encoding.specs.Classes.{classes, classAt, SVE2p1}
+use Rattle.encoding.specs.Classes.{classes, classAt}
+use Rattle.encoding.specs.declared.Feature.the-variants.{SVE2p1}
 use Rattle.encoding.proofs.Rows.{found-feature}
 use Rattle.encoding.proofs.Causes.{encode-out, encode-yes, encode-no}
 use Rattle.encoding.proofs.Fitting.{quadword-fit, quadword-word}
@@ -20,36 +20,41 @@ quadword-fits-requires : tie.Need-quadword-fits-requires
 quadword-fits-requires c κs = search needs
 
 base-of-requires : tie.Need-base-of-requires
+unfolding classes
 base-of-requires c κs = search needs
 
 quadword-sum-requires : tie.Need-quadword-sum-requires
 quadword-sum-requires c κs = search needs
 
-add-t8 : tie.Need-add-t8
-add-t8 c = search needs
+add-t9 : tie.Need-add-t9
+add-t9 c = search needs
 
 returns-2 : tie.Need-returns-2
 unfolding classes
 returns-2 c =
-    let f = c .before .before .before .before .before .before .args .f in
-    let r = c .before .before .before .before .before .row-of in
-    let h = c .before .before .before .before .if1 .left in
-    let a = c .before .before .before .quadword-fits in
-    encode-yes (Quadword f) (r .result) (r .ensures) h _ _
-    (quadword-fit (r .result) h (found-feature (f .class) (r .result) SVE2p1 (r .ensures) h) f (a .result) (a .ensures))
+    let t = c .before .before .before in
+    let i = t .before in
+    let r = i .before .row-of in
+    let f = i .before .before .args .f in
+    let h = i .if1 .left in
+    let a = t .quadword-fits in
+    let x = found-feature (f .class) (r .result) SVE2p1 (r .ensures) h in
+    encode-yes (Quadword f) (r .result) (r .ensures) h _ _ (quadword-fit (r .result) h x f (a .result) (a .ensures))
     (c .before .before .if2 .taken)
-    (quadword-word (classAt (r .result)) f (c .before .base-of .result) (c .quadword-sum .result) (c .before .base-of .ensures .0) (c .quadword-sum .ensures .0))
+    (quadword-word (classAt (r .result)) f (c .before .base-of .result) (c .quadword-sum .result)
+    (c .before .base-of .ensures .0) (c .quadword-sum .ensures .0))
 
 returns-3 : tie.Need-returns-3
 unfolding classes
 returns-3 c =
-    let f = c .before .before .before .before .args .f in
-    let r = c .before .before .before .row-of in
-    let h = c .before .before .if1 .left in
-    let a = c .before .quadword-fits in
-    encode-no (Quadword f) (r .result) (r .ensures) h _
-    (quadword-fit (r .result) h (found-feature (f .class) (r .result) SVE2p1 (r .ensures) h) f (a .result) (a .ensures))
-    (c .if2 .left)
+    let t = c .before in
+    let i = t .before in
+    let r = i .before .row-of in
+    let f = i .before .before .args .f in
+    let h = i .if1 .left in
+    let a = t .quadword-fits in
+    let x = found-feature (f .class) (r .result) SVE2p1 (r .ensures) h in
+    encode-no (Quadword f) (r .result) (r .ensures) h _ (quadword-fit (r .result) h x f (a .result) (a .ensures)) (c .if2 .left)
 
 pub encode-quadword-spec : {M : Type 1} → statement M
 encode-quadword-spec =
@@ -60,6 +65,6 @@ encode-quadword-spec =
     quadword-fits-requires
     base-of-requires
     quadword-sum-requires
-    add-t8
+    add-t9
     returns-2
     returns-3)

@@ -1,7 +1,7 @@
--- The tests of its fields, and their sum. Assumes nothing.
-use mathlib.Core.Path.{_≡_, _∙_, sym, ap}
+-- `encode_scatter`: the tests of its fields, and their sum. Assumes nothing.
 use Rattle.encoding.specs.declared.Store.the-variants.{Scatter}
-use Rattle.encoding.specs.Classes.{classes, classAt, SVE}
+use Rattle.encoding.specs.Classes.{classes, classAt}
+use Rattle.encoding.specs.declared.Feature.the-variants.{SVE}
 use Rattle.encoding.proofs.Rows.{found-feature}
 use Rattle.encoding.proofs.Causes.{encode-out, encode-yes, encode-no}
 use Rattle.encoding.proofs.Fitting.{scatter-fit, scatter-word}
@@ -17,6 +17,7 @@ unfolding classes
 returns c = encode-out (Scatter (c .before .before .args .f)) (c .before .row-of .result) (c .before .row-of .ensures) (c .if1 .taken)
 
 layout-of-requires : tie.Need-layout-of-requires
+unfolding classes
 layout-of-requires c κs = search needs
 
 scatter-fits-requires : tie.Need-scatter-fits-requires
@@ -26,6 +27,7 @@ extends-requires : tie.Need-extends-requires
 extends-requires c κs = search needs
 
 base-of-requires : tie.Need-base-of-requires
+unfolding classes
 base-of-requires c κs = search needs
 
 xs-of-requires : tie.Need-xs-of-requires
@@ -34,20 +36,23 @@ xs-of-requires c κs = search needs
 scatter-sum-requires : tie.Need-scatter-sum-requires
 scatter-sum-requires c κs = search needs
 
-add-t13 : tie.Need-add-t13
-add-t13 c = search needs
+add-t14 : tie.Need-add-t14
+add-t14 c = search needs
 
 returns-2 : tie.Need-returns-2
 unfolding classes
 returns-2 c =
-    let f = c .before .before .before .before .before .before .before .before .before .before .args .f in
-    let r = c .before .before .before .before .before .before .before .before .before .row-of in
-    let h = c .before .before .before .before .before .before .before .before .if1 .left in
-    let l = c .before .before .before .before .before .before .before .layout-of in
-    let a = c .before .before .before .before .before .before .scatter-fits in
-    let b = c .before .before .before .before .extends in
+    let b = c .before .before .before .before in
+    let s = b .before .before in
+    let l = s .before in
+    let i = l .before in
+    let r = i .before .row-of in
+    let f = i .before .before .args .f in
+    let h = i .if1 .left in
+    let x = found-feature (f .class) (r .result) SVE (r .ensures) h in
     encode-yes (Scatter f) (r .result) (r .ensures) h _ _
-    (scatter-fit (r .result) h (found-feature (f .class) (r .result) SVE (r .ensures) h) f (l .result) (l .ensures .0) (a .result) (b .result) (a .ensures) (b .ensures))
+    (scatter-fit (r .result) h x f (l .layout-of .result) (l .layout-of .ensures .0)
+    (s .scatter-fits .result) (b .extends .result) (s .scatter-fits .ensures) (b .extends .ensures))
     (c .before .before .before .if2 .taken)
     (scatter-word (classAt (r .result)) f (c .before .before .base-of .result) (c .before .xs-of .result) (c .scatter-sum .result)
     (c .before .before .base-of .ensures .0) (c .before .xs-of .ensures .0) (c .scatter-sum .ensures .0))
@@ -55,14 +60,17 @@ returns-2 c =
 returns-3 : tie.Need-returns-3
 unfolding classes
 returns-3 c =
-    let f = c .before .before .before .before .before .before .before .args .f in
-    let r = c .before .before .before .before .before .before .row-of in
-    let h = c .before .before .before .before .before .if1 .left in
-    let l = c .before .before .before .before .layout-of in
-    let a = c .before .before .before .scatter-fits in
-    let b = c .before .extends in
+    let b = c .before in
+    let s = b .before .before in
+    let l = s .before in
+    let i = l .before in
+    let r = i .before .row-of in
+    let f = i .before .before .args .f in
+    let h = i .if1 .left in
+    let x = found-feature (f .class) (r .result) SVE (r .ensures) h in
     encode-no (Scatter f) (r .result) (r .ensures) h _
-    (scatter-fit (r .result) h (found-feature (f .class) (r .result) SVE (r .ensures) h) f (l .result) (l .ensures .0) (a .result) (b .result) (a .ensures) (b .ensures))
+    (scatter-fit (r .result) h x f (l .layout-of .result) (l .layout-of .ensures .0)
+    (s .scatter-fits .result) (b .extends .result) (s .scatter-fits .ensures) (b .extends .ensures))
     (c .if2 .left)
 
 pub encode-scatter-spec : {M : Type 1} → statement M
@@ -77,6 +85,6 @@ encode-scatter-spec =
     base-of-requires
     xs-of-requires
     scatter-sum-requires
-    add-t13
+    add-t14
     returns-2
     returns-3)

@@ -1,11 +1,11 @@
--- The tests of its fields, of its first register and of its multiple, and their sum. Assumes nothing.
-use mathlib.Core.Path.{_≡_, _∙_, sym, ap}
+-- `encode_strided`: the tests of its fields, of its first register and of its multiple, and their sum. Assumes nothing.
+use mathlib.Core.Path.{_∙_, ap}
 use Rattle.encoding.specs.declared.Store.the-variants.{Strided}
-use Rattle.encoding.specs.Classes.{classes, classAt, SME2}
+use Rattle.encoding.specs.Classes.{classes, classAt}
+use Rattle.encoding.specs.declared.Feature.the-variants.{SME2}
 use Rattle.encoding.proofs.Rows.{found-feature}
 use Rattle.encoding.proofs.Causes.{encode-out, encode-yes, encode-no}
 use Rattle.encoding.proofs.Fitting.{strided-fit, strided-word}
-use lib.IntN.{ℤ}
 use native.Mathlib.Omega.{arith}
 use mir.Syntax.{w64}
 use mir.Val.{SFits}
@@ -26,6 +26,7 @@ unfolding classes
 returns c = encode-out (Strided (c .before .before .args .f)) (c .before .row-of .result) (c .before .row-of .ensures) (c .if1 .taken)
 
 layout-of-requires : tie.Need-layout-of-requires
+unfolding classes
 layout-of-requires c κs = search needs
 
 imm4-of-requires : tie.Need-imm4-of-requires
@@ -35,42 +36,51 @@ strided-fits-requires : tie.Need-strided-fits-requires
 strided-fits-requires c κs = search needs
 
 base-of-requires : tie.Need-base-of-requires
+unfolding classes
 base-of-requires c κs = search needs
 
 strided-sum-requires : tie.Need-strided-sum-requires
 strided-sum-requires c κs = search needs
 
-add-t10 : tie.Need-add-t10
-add-t10 c = search needs
+add-t11 : tie.Need-add-t11
+add-t11 c = search needs
 
 returns-2 : tie.Need-returns-2
 unfolding classes
 returns-2 c =
-    let f = c .before .before .before .before .before .before .before .before .before .args .f in
-    let r = c .before .before .before .before .before .before .before .before .row-of in
-    let h = c .before .before .before .before .before .before .before .if1 .left in
-    let l = c .before .before .before .before .before .before .layout-of in
-    let i = c .before .before .before .before .imm4-of in
-    let a = c .before .before .before .strided-fits in
-    let v = i .ensures ∙ ap (immOf (l .result .nreg) (l .result .imm4)) (toZ-ofZ (whole (c .before .before .before .before .before .before .before .before .before))) in
+    let t = c .before .before .before in
+    let i = t .before in
+    let l = i .before .before in
+    let d = l .before in
+    let r = d .before .row-of in
+    let f = d .before .before .args .f in
+    let h = d .if1 .left in
+    let g = l .layout-of in
+    let v = i .imm4-of .ensures ∙ ap (immOf (g .result .nreg) (g .result .imm4)) (toZ-ofZ (whole (d .before .before))) in
+    let a = t .strided-fits in
+    let x = found-feature (f .class) (r .result) SME2 (r .ensures) h in
     encode-yes (Strided f) (r .result) (r .ensures) h _ _
-    (strided-fit (r .result) h (found-feature (f .class) (r .result) SME2 (r .ensures) h) f (l .result) (l .ensures .0) (a .result) (i .result) v (a .ensures))
+    (strided-fit (r .result) h x f (g .result) (g .ensures .0) (a .result) (i .imm4-of .result) v (a .ensures))
     (c .before .before .if2 .taken)
-    (strided-word (classAt (r .result)) f (l .result) (c .before .base-of .result) (i .result) (c .strided-sum .result)
-    (l .ensures .0) (c .before .base-of .ensures .0) v (c .strided-sum .ensures .0))
+    (strided-word (classAt (r .result)) f (g .result) (c .before .base-of .result) (i .imm4-of .result) (c .strided-sum .result)
+    (g .ensures .0) (c .before .base-of .ensures .0) v (c .strided-sum .ensures .0))
 
 returns-3 : tie.Need-returns-3
 unfolding classes
 returns-3 c =
-    let f = c .before .before .before .before .before .before .before .args .f in
-    let r = c .before .before .before .before .before .before .row-of in
-    let h = c .before .before .before .before .before .if1 .left in
-    let l = c .before .before .before .before .layout-of in
-    let i = c .before .before .imm4-of in
-    let a = c .before .strided-fits in
-    let v = i .ensures ∙ ap (immOf (l .result .nreg) (l .result .imm4)) (toZ-ofZ (whole (c .before .before .before .before .before .before .before))) in
+    let t = c .before in
+    let i = t .before in
+    let l = i .before .before in
+    let d = l .before in
+    let r = d .before .row-of in
+    let f = d .before .before .args .f in
+    let h = d .if1 .left in
+    let g = l .layout-of in
+    let v = i .imm4-of .ensures ∙ ap (immOf (g .result .nreg) (g .result .imm4)) (toZ-ofZ (whole (d .before .before))) in
+    let a = t .strided-fits in
+    let x = found-feature (f .class) (r .result) SME2 (r .ensures) h in
     encode-no (Strided f) (r .result) (r .ensures) h _
-    (strided-fit (r .result) h (found-feature (f .class) (r .result) SME2 (r .ensures) h) f (l .result) (l .ensures .0) (a .result) (i .result) v (a .ensures))
+    (strided-fit (r .result) h x f (g .result) (g .ensures .0) (a .result) (i .imm4-of .result) v (a .ensures))
     (c .if2 .left)
 
 pub encode-strided-spec : {M : Type 1} → statement M
@@ -84,6 +94,6 @@ encode-strided-spec =
     strided-fits-requires
     base-of-requires
     strided-sum-requires
-    add-t10
+    add-t11
     returns-2
     returns-3)

@@ -1,4 +1,4 @@
--- In each class with an extension and without. Assumes nothing.
+-- `extends`: in each class with an extension and without. Assumes nothing.
 use mathlib.Core.Path.{sym, ap, _∙_}
 use mathlib.Core.Bool.{not}
 use borrow.Author.Needs.{needs}

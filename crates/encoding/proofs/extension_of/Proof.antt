@@ -1,4 +1,4 @@
--- By the test of xs. Assumes nothing.
+-- `extension_of`: by the test of xs. Assumes nothing.
 use mathlib.Core.Path.{sym, ap, _∙_}
 use mathlib.Core.Bool.{Bool}
 use borrow.Author.Needs.{needs}

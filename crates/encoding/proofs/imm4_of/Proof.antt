@@ -1,4 +1,4 @@
--- No imm4 below the present one has the multiple. Assumes nothing.
+-- `imm4_of`: a search. Invariant: no imm4 below v has the multiple. Assumes nothing.
 use mathlib.Core.Path.{_≡_, _∙_, sym, ap, subst}
 use Prim.Native.Nat.{ℕ, _-_, _≤_, _<_}
 use native.Mathlib.Omega.{arith}
@@ -59,7 +59,8 @@ loop-again c =
     let m = c .before .multiple in
     let n : ofZ w64 (m .result) ≡ ofZ w64 (a .args .z) → ⊥ = c .if1 .left in (
       omega arith,
-      below-more (λ (k : ℕ). T (eqℤ (multipleOf (a .args .nreg) k) (toZ w64 (ofZ w64 (a .args .z)))) → ⊥) v (c .before .before .before .loop .inv .1)
+      below-more (λ (k : ℕ). T (eqℤ (multipleOf (a .args .nreg) k) (toZ w64 (ofZ w64 (a .args .z)))) → ⊥) v
+          (c .before .before .before .loop .inv .1)
           (λ t.
           n
           (ap (ofZ w64)

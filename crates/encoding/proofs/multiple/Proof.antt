@@ -1,5 +1,5 @@
--- imm4 below 8 is positive, and from 8 on negative. Assumes nothing.
-use mathlib.Core.Path.{_≡_, _∙_, sym}
+-- `multiple`: imm4 below 8 is positive, and from 8 on negative. Assumes nothing.
+use mathlib.Core.Path.{_∙_, sym}
 use Prim.Native.Nat.{ℕ, _-_, _*_, _≤_}
 use native.Mathlib.Nat.{mul-le-mul-left}
 use native.Mathlib.Omega.{arith}

@@ -1,4 +1,4 @@
--- Each field stands at its place. Assumes nothing.
+-- `quadword`: each field stands at its place. Assumes nothing.
 use Rattle.encoding.specs.Classes.{classes}
 use Rattle.encoding.proofs.Reading.{quadword-is}
 use borrow.Author.Needs.{needs}
@@ -6,21 +6,27 @@ use Rattle.encoding.proofs.quadword.Statement.{statement}
 use Rattle.encoding.proofs.quadword.Tie as tie
 
 add-t3 : tie.Need-add-t3
+unfolding classes
 add-t3 c = search needs
 
 cast-t4 : tie.Need-cast-t4
+unfolding classes
 cast-t4 c = search needs
 
 cast-t7 : tie.Need-cast-t7
+unfolding classes
 cast-t7 c = search needs
 
 cast-t10 : tie.Need-cast-t10
+unfolding classes
 cast-t10 c = search needs
 
 cast-t13 : tie.Need-cast-t13
+unfolding classes
 cast-t13 c = search needs
 
 cast-t15 : tie.Need-cast-t15
+unfolding classes
 cast-t15 c = search needs
 
 returns : tie.Need-returns

@@ -1,16 +1,17 @@
--- The refusals in their order. Assumes nothing.
-use mathlib.Core.Path.{_≡_, refl, sym, _∙_}
+-- `inspect`: the refusals in their order. Assumes nothing.
+use mathlib.Core.Path.{_≡_, sym, _∙_}
 use mathlib.Core.Bool.{false, not}
 use native.Mathlib.Omega.{arith}
 use borrow.Author.Tests.{not-false}
-use Rattle.encoding.specs.Classes.{classes, classAt}
-use Rattle.encoding.specs.Decoding.{storeOf, decodeOf}
-use Rattle.encoding.proofs.Reading.{undefined, defined}
+use Rattle.encoding.specs.Decoding.{decodeOf}
 use Rattle.encoding.proofs.Statements.{known-accepted}
+use Rattle.encoding.specs.declared.Decoded.{Decoded}
 use Rattle.encoding.specs.declared.Decoded.the-variants.{Known, Undefined}
 use Rattle.elements.specs.Machine.{Machine, machine}
+use Rattle.checks.specs.Steps.{Sound}
 use Rattle.checks.proofs.Concluding.{Vb, length-sound}
 use Rattle.inspection.proofs.Inspecting.{inspected-length, inspected-z, inspected-p, inspected-decoded}
+use Rattle.inspection.specs.Inspection.{inspectedFor, inspectedOf}
 use borrow.Author.Needs.{needs}
 use Rattle.inspection.proofs.inspect.Statement.{statement}
 use Rattle.inspection.proofs.inspect.Tie as tie
@@ -48,40 +49,50 @@ returns-3 : tie.Need-returns-3
 returns-3 c =
     let a = c .before .before .before .before .before .before in
     let k = c .before .before .before .length-ok in
-    inspected-p (m a) (a .args .word) (a .args .e) (k .result) (k .ensures) (c .before .before .if1 .left) (c .before .if2 .left) (c .if3 .taken)
+    inspected-p (m a) (a .args .word) (a .args .e) (k .result) (k .ensures) (c .before .before .if1 .left) (c .before .if2 .left)
+    (c .if3 .taken)
 
--- the word's store is that of the class found
-known : (c : tie.Else4) → let a = c .before .before .before .before .before .before .before .before .args in let k = c .before .index-of .result in Known (storeOf (classAt k) (a .word)) ≡ decodeOf (a .word)
-unfolding classes
-known c =
-    let i = c .before .index-of in
-    defined (c .before .before .before .before .before .before .before .before .args .word) (i .result) (i .ensures) (c .if4 .left) _ refl
+decode-requires : tie.Need-decode-requires
+decode-requires c κs = search needs
 
-index-of-requires : tie.Need-index-of-requires
-index-of-requires c κs = search needs
+-- past the tests of the buffers
+module _ (c : tie.Else3) where
+  abbrev start : tie.Start
+  start = c .before .before .before .before .before .before
+
+  lent : Sound (start .args .vb) (start .args .z .now) (start .args .p .now)
+  lent =
+      let v = sound (c .before .before .before) (c .before .before .if1 .left) in
+      record { low = v .low; high = v .high; sixteen = v .sixteen; long-z = c .before .if2 .left; long-p = c .if3 .left }
+
+  decoded : (d : Decoded) → d ≡ decodeOf (start .args .word)
+      → inspectedFor (m start) d (start .args .e) ≡ inspectedOf (m start) (start .args .word) (start .args .e)
+  decoded d e =
+      let k = c .before .before .before .length-ok in
+      inspected-decoded (m start) (start .args .word) (start .args .e) (k .result) (k .ensures) (c .before .before .if1 .left)
+      (c .before .if2 .left) (c .if3 .left) d e
+
+enum-known-store : tie.Need-enum-known-store
+enum-known-store c = search needs
+
+inspect-store-requires : tie.Need-inspect-store-requires
+inspect-store-requires c κs =
+    let d = c .before .before .before in
+    (known-accepted (start (d .before) .args .word) _ (sym (d .decode .ensures) ∙ c .before .store .given .1), lent (d .before))
+
+enum-told : tie.Need-enum-told
+enum-told c = search needs
 
 returns-4 : tie.Need-returns-4
-unfolding classes
 returns-4 c =
-    let a = c .before .before .before .before .before .before .before .before in
-    let k = c .before .before .before .before .before .length-ok in
-    let i = c .before .index-of in
-    inspected-decoded (m a) (a .args .word) (a .args .e) (k .result) (k .ensures) (c .before .before .before .before .if1 .left) (c .before .before .before .if2 .left) (c .before .before .if3 .left) Undefined (undefined (a .args .word) (i .result) (i .ensures) (c .if4 .taken))
-
-inspect-at-requires : tie.Need-inspect-at-requires
-inspect-at-requires c κs =
-    let a = c .before .before .before .before .before .before .before .before in
-    let v = sound (c .before .before .before .before .before) (c .before .before .before .before .if1 .left) in (
-      (c .if4 .left, known-accepted (a .args .word) _ (sym (known c))),
-      record { low = v .low; high = v .high; sixteen = v .sixteen; long-z = c .before .before .before .if2 .left; long-p = c .before .before .if3 .left },
-    )
+    let t = c .before .before in
+    let d = t .before .before in
+    c .inspect-store .ensures ∙ decoded (d .before) (Known _) (sym (t .store .given .1) ∙ d .decode .ensures)
 
 returns-5 : tie.Need-returns-5
 returns-5 c =
-    let a = c .before .before .before .before .before .before .before .before .before in
-    let k = c .before .before .before .before .before .before .length-ok in
-    c .inspect-at .ensures
-    ∙ inspected-decoded (m a) (a .args .word) (a .args .e) (k .result) (k .ensures) (c .before .before .before .before .before .if1 .left) (c .before .before .before .before .if2 .left) (c .before .before .before .if3 .left) (Known _) (known (c .before))
+    let d = c .before .before in
+    decoded (d .before) Undefined (sym (c .enum-told .given .1) ∙ d .decode .ensures)
 
 pub inspect-spec : {M : Type 1} → statement M
 inspect-spec =
@@ -93,7 +104,9 @@ inspect-spec =
     returns-2
     mul-if3
     returns-3
-    index-of-requires
+    decode-requires
+    enum-known-store
+    inspect-store-requires
+    enum-told
     returns-4
-    inspect-at-requires
     returns-5)

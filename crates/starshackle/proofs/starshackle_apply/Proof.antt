@@ -1,9 +1,19 @@
--- By what applying answers. Assumes nothing.
-use mathlib.Core.Path.{sym, ap}
+-- `starshackle_apply`: by what applying answers. Assumes nothing.
+use mathlib.Core.Path.{_≡_, sym, ap}
+use mathlib.Core.List.{List}
+use Prim.Native.Nat.{ℕ}
 use Rattle.patch.specs.Answers.{appliedNumber, appliedNumbers}
+use Rattle.patch.specs.Applying.{AppliedTo}
+use Rattle.patch.specs.declared.Applied.{Applied}
+use Rattle.starshackle.specs.Patches.{AppliedAs}
 use borrow.Author.Needs.{needs}
 use Rattle.starshackle.proofs.starshackle_apply.Statement.{statement}
 use Rattle.starshackle.proofs.starshackle_apply.Tie as tie
+
+-- an answer in numbers, by its case
+applied : {W : ℕ} {m s m′ : List ℕ} (r a : Applied) → AppliedTo W m s r m′ → r ≡ a
+    → AppliedAs W m s (appliedNumber a) (appliedNumbers a) m′
+applied r a o e = record { answer = r; outcome = o; its-number = sym (ap appliedNumber e); its-numbers = sym (ap appliedNumbers e) }
 
 apply-requires : tie.Need-apply-requires
 apply-requires c κs = search needs
@@ -25,32 +35,32 @@ same-length c = search needs
 
 returns : tie.Need-returns
 returns c =
-    let e = c .before .before .runs .given .1 in
-    record { answer = c .before .before .before .before .before .before .apply .result; outcome = c .before .before .before .before .before .before .apply .ensures; its-number = sym (ap appliedNumber e); its-numbers = sym (ap appliedNumbers e) }
+    let r = c .before .before .before .before .before .before .apply in
+    applied (r .result) _ (r .ensures) (c .before .before .runs .given .1)
 
 same-length-2 : tie.Need-same-length-2
 same-length-2 c = search needs
 
 returns-2 : tie.Need-returns-2
 returns-2 c =
-    let e = c .before .enum-told .given .1 in
-    record { answer = c .before .before .before .before .before .apply .result; outcome = c .before .before .before .before .before .apply .ensures; its-number = sym (ap appliedNumber e); its-numbers = sym (ap appliedNumbers e) }
+    let r = c .before .before .before .before .before .apply in
+    applied (r .result) _ (r .ensures) (c .before .enum-told .given .1)
 
 same-length-3 : tie.Need-same-length-3
 same-length-3 c = search needs
 
 returns-3 : tie.Need-returns-3
 returns-3 c =
-    let e = c .before .enum-told2 .given .1 in
-    record { answer = c .before .before .before .before .before .apply .result; outcome = c .before .before .before .before .before .apply .ensures; its-number = sym (ap appliedNumber e); its-numbers = sym (ap appliedNumbers e) }
+    let r = c .before .before .before .before .before .apply in
+    applied (r .result) _ (r .ensures) (c .before .enum-told2 .given .1)
 
 same-length-4 : tie.Need-same-length-4
 same-length-4 c = search needs
 
 returns-4 : tie.Need-returns-4
 returns-4 c =
-    let e = c .before .before .run .given .1 in
-    record { answer = c .before .before .before .before .before .before .apply .result; outcome = c .before .before .before .before .before .before .apply .ensures; its-number = sym (ap appliedNumber e); its-numbers = sym (ap appliedNumbers e) }
+    let r = c .before .before .before .before .before .before .apply in
+    applied (r .result) _ (r .ensures) (c .before .before .run .given .1)
 
 pub starshackle-apply-spec : {M : Type 1} → statement M
 starshackle-apply-spec =

@@ -1,33 +1,33 @@
--- By the class found. Assumes nothing.
-use mathlib.Core.Path.{_≡_, refl, ap, _∙_}
+-- `starshackle_decode`: by what decoding answers. Assumes nothing.
+use mathlib.Core.Path.{sym, ap, _∙_}
 use Rattle.encoding.specs.Answers.{decodedNumber, decodedNumbers}
-use Rattle.encoding.specs.Classes.{classes, classAt}
-use Rattle.encoding.specs.Decoding.{storeOf, decodeOf}
-use Rattle.encoding.specs.declared.Decoded.the-variants.{Known, Undefined}
-use Rattle.encoding.proofs.Reading.{undefined, defined}
 use borrow.Author.Needs.{needs}
 use Rattle.starshackle.proofs.starshackle_decode.Statement.{statement}
 use Rattle.starshackle.proofs.starshackle_decode.Tie as tie
 
-index-of-requires : tie.Need-index-of-requires
-index-of-requires c κs = search needs
+decode-requires : tie.Need-decode-requires
+decode-requires c κs = search needs
+
+enum-known-store : tie.Need-enum-known-store
+enum-known-store c = search needs
+
+numbers-of-requires : tie.Need-numbers-of-requires
+numbers-of-requires c κs = search needs
+
+enum-told : tie.Need-enum-told
+enum-told c = search needs
 
 returns : tie.Need-returns
-unfolding classes
 returns c =
-    let i = c .before .before .index-of in
-    let e : Undefined ≡ decodeOf _ = undefined (c .before .before .before .args .word) (i .result) (i .ensures) (c .before .if1 .taken) in
-    (ap decodedNumber e, ap decodedNumbers e)
-
-numbers-at-requires : tie.Need-numbers-at-requires
-numbers-at-requires c κs = search needs
+    let t = c .before .before in
+    let e = sym (t .store .given .1) ∙ t .before .before .decode .ensures in
+    (ap decodedNumber e, c .numbers-of .ensures ∙ ap decodedNumbers e)
 
 returns-2 : tie.Need-returns-2
-unfolding classes
 returns-2 c =
-    let i = c .before .before .index-of in
-    let e : Known (storeOf (classAt (i .result)) _) ≡ decodeOf _ = defined (c .before .before .before .args .word) (i .result) (i .ensures) (c .before .if1 .left) _ refl in
-    (ap decodedNumber e, c .numbers-at .ensures ∙ ap decodedNumbers e)
+    let e = sym (c .before .enum-told .given .1) ∙ c .before .before .before .decode .ensures in
+    (ap decodedNumber e, ap decodedNumbers e)
 
 pub starshackle-decode-spec : {M : Type 1} → statement M
-starshackle-decode-spec = tie.close (tie.spec index-of-requires returns numbers-at-requires returns-2)
+starshackle-decode-spec =
+    tie.close (tie.spec decode-requires enum-known-store numbers-of-requires enum-told returns returns-2)

@@ -1,4 +1,4 @@
--- By what inspecting answers. Assumes nothing.
+-- `starshackle_element`: by what inspecting answers. Assumes nothing.
 use mathlib.Core.Path.{ap, _∙_}
 use Rattle.inspection.specs.Inspection.{inspectedNumber, inspectedAnswers}
 use borrow.Author.Needs.{needs}

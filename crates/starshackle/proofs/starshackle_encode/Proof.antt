@@ -1,5 +1,5 @@
--- By what encoding answers. Assumes nothing.
-use mathlib.Core.Path.{_≡_, sym, ap, _∙_}
+-- `starshackle_encode`: by what encoding answers. Assumes nothing.
+use mathlib.Core.Path.{sym, ap, _∙_}
 use Rattle.encoding.specs.Answers.{encodedNumber}
 use Rattle.codec.specs.Codec.{encodedAnswers}
 use borrow.Author.Needs.{needs}

@@ -1,4 +1,4 @@
--- By what judging answers. Assumes nothing.
+-- `starshackle_judge`: by what judging answers. Assumes nothing.
 use mathlib.Core.Path.{sym, ap, _∙_}
 use Rattle.patch.specs.Answers.{judgedNumber, judgedNumbers}
 use borrow.Author.Needs.{needs}

@@ -1,4 +1,4 @@
--- What making a patch answers, as numbers. Assumes nothing.
+-- `starshackle_make_patch`: what making a patch answers, as numbers. Assumes nothing.
 use mathlib.Core.Path.{ap, _∙_}
 use lib.ListN.{length}
 use Rattle.elements.specs.Machine.{machine}
@@ -30,9 +30,11 @@ returns c =
     let m = machine (a .vb) (a .x .now) (a .sp) (a .z .now) (a .p .now) in
     let r = c .before .before .before .before .make-patch in
     let q = c .before .before .before .before .before .before .flags-of .ensures in
+    let n = length (a .patch .now) in
+    let e = ap (λ (f : Flags). makingOf (verdictOf f m (a .base) (a .length) (a .word)) (patchOf m (a .word)) n) q in
     record {
       answer = r .result;
-      outcome = record { answer = r .ensures .answer ∙ ap (λ (f : Flags). makingOf (verdictOf f m (a .base) (a .length) (a .word)) (patchOf m (a .word)) (length (a .patch .now))) q; after = r .ensures .after };
+      outcome = record { answer = r .ensures .answer ∙ e; after = r .ensures .after };
       its-number = c .number-of .ensures;
       its-numbers = c .before .answers-of .ensures;
     }

@@ -1,4 +1,4 @@
--- What running answers, as numbers. Assumes nothing.
+-- `starshackle_run`: what running answers, as numbers. Assumes nothing.
 use mathlib.Core.Path.{ap, _∙_}
 use lib.ListN.{length}
 use Rattle.elements.specs.Machine.{machine}
@@ -29,9 +29,10 @@ returns c =
     let m = machine (a .vb) (a .x .now) (a .sp) (a .z .now) (a .p .now) in
     let r = c .before .before .before .before .run in
     let q = c .before .before .before .before .before .before .flags-of .ensures in
+    let e = ap (λ (f : Flags). verdictOf f m (a .base) (length (a .memory .now)) (a .word)) q in
     record {
       answer = r .result;
-      outcome = record { answer = r .ensures .answer ∙ ap (λ (f : Flags). verdictOf f m (a .base) (length (a .memory .now)) (a .word)) q; memory = r .ensures .memory };
+      outcome = record { answer = r .ensures .answer ∙ e; memory = r .ensures .memory };
       its-number = c .number-of .ensures;
       its-numbers = c .before .answers-of .ensures;
     }

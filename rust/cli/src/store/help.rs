@@ -23,6 +23,11 @@ FILE is a text with lines NAME = VALUE. What isn't given is 0; # starts a commen
 
 Numbers are decimal or 0x and hexadecimal; bytes are hexadecimal, two digits each.
 A value is as long as its register or window; ... repeats the last element or byte up to there.
+
+A note names each register that the store reads and FILE doesn't give: being 0, it may leave all
+elements inactive, or send them to one address. With --require-registers that is an error, and
+nothing is written. A line gives its whole register, be it 0; p0.s gives the bits between those of
+its elements as 0. There is no note where there is no store (verdicts 4 and 11).
 "
     };
 }

@@ -7,10 +7,12 @@ mod names;
 mod values;
 
 use crate::command::Failure;
+use crate::register::Register;
 use crate::{fields, input, numbers};
 use lines::{is, lines, Line};
 use names::Subject;
 use starshackle::{elements, Flags, Machine, Refusal, Store, LARGEST_WINDOW};
+use std::collections::BTreeSet;
 
 /// What such a file is, for messages.
 pub const EXPECTED: &str = "a text that describes a store";
@@ -35,12 +37,19 @@ pub struct Registers {
     sp: u64,
     z: Vec<u8>,
     p: Vec<u8>,
+    /// Those that a line is about, be it 0 or not. A line gives all of its register.
+    given: BTreeSet<Register>,
 }
 
 impl Registers {
     pub fn machine(&self) -> Machine<'_> {
-        let Registers { vb, flags, x, sp, ref z, ref p } = *self;
+        let Registers { vb, flags, x, sp, ref z, ref p, .. } = *self;
         Machine { vb, flags, x, sp, z, p }
+    }
+
+    /// Whether the file has a line about a register.
+    pub fn gives(&self, register: &Register) -> bool {
+        self.given.contains(register)
     }
 
     /// Registers of 0. For a length that the model refuses there are none.
@@ -48,7 +57,20 @@ impl Registers {
         let empty = Machine { vb, ..Machine::default() };
         let length = if elements(&empty, 0) == Err(Refusal::Length) { 0 } else { vb };
         let (z, p) = (vec![0; 32 * length], vec![0; 2 * length]);
-        Registers { vb, flags: Flags::default(), x: [0; 31], sp: 0, z, p }
+        let given = BTreeSet::new();
+        Registers { vb, flags: Flags::default(), x: [0; 31], sp: 0, z, p, given }
+    }
+
+    /// Puts a line's value into a register.
+    fn put(&mut self, register: Register, line: &Line) -> Result<(), Failure> {
+        self.given.insert(register);
+        match register {
+            Register::X(number) => self.x[number] = values::general(line)?,
+            Register::Sp => self.sp = values::general(line)?,
+            Register::Z(number) => put(&mut self.z, number, 32, line, values::vector)?,
+            Register::P(number) => put(&mut self.p, number, 16, line, values::predicate)?,
+        }
+        Ok(())
     }
 }
 
@@ -128,10 +150,7 @@ fn registers(lines: &[Line]) -> Result<Registers, Failure> {
     for line in lines {
         match line.name.subject {
             Subject::Flags => registers.flags = flags(line)?,
-            Subject::X(number) => registers.x[number] = values::general(line)?,
-            Subject::Sp => registers.sp = values::general(line)?,
-            Subject::Z(number) => put(&mut registers.z, number, 32, line, values::vector)?,
-            Subject::P(number) => put(&mut registers.p, number, 16, line, values::predicate)?,
+            Subject::Register(register) => registers.put(register, line)?,
             _ => (),
         }
     }

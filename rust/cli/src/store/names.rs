@@ -2,6 +2,7 @@
 
 use crate::classes::Field;
 use crate::fields;
+use crate::register::Register;
 use std::fmt::{self, Display, Formatter};
 
 #[derive(Clone, Copy)]
@@ -18,10 +19,7 @@ pub enum Subject {
     Field(&'static Field),
     Vb,
     Flags,
-    X(usize),
-    Sp,
-    Z(usize),
-    P(usize),
+    Register(Register),
     /// The window's address.
     Window,
     /// How many bytes the window has.
@@ -49,7 +47,6 @@ const PLAIN: &[(&str, Subject)] = &[
     ("word", Subject::Word),
     ("vb", Subject::Vb),
     ("flags", Subject::Flags),
-    ("sp", Subject::Sp),
     ("window", Subject::Window),
     ("length", Subject::Length),
     ("memory", Subject::Memory),
@@ -69,8 +66,9 @@ impl Name {
             Some((register, letter)) => (register, Some(width_of(letter)?)),
             None => (&text[..], None),
         };
-        let subject = register_named(register)?;
-        let has_width = matches!(subject, Subject::Z(_) | Subject::P(_));
+        let register = Register::named(register)?;
+        let has_width = matches!(register, Register::Z(_) | Register::P(_));
+        let subject = Subject::Register(register);
         (has_width || width.is_none()).then_some(Name { subject, width })
     }
 
@@ -93,26 +91,11 @@ fn width_of(letter: &str) -> Option<Width> {
     WIDTHS.iter().copied().find(|width| letter == width.letter.to_string())
 }
 
-/// The register of a name in lower case. `pn8` is another name of `p8`.
-fn register_named(text: &str) -> Option<Subject> {
-    let digits = text.find(|letter: char| letter.is_ascii_digit())?;
-    let (kind, digits) = text.split_at(digits);
-    let number = digits.parse().ok().filter(|number: &usize| number.to_string() == digits)?;
-    match (kind, number) {
-        ("x", 0..=30) => Some(Subject::X(number)),
-        ("z", 0..=31) => Some(Subject::Z(number)),
-        ("p", 0..=15) | ("pn", 8..=15) => Some(Subject::P(number)),
-        _ => None,
-    }
-}
-
 impl Display for Name {
     fn fmt(&self, f: &mut Formatter) -> fmt::Result {
         match self.subject {
             Subject::Field(field) => f.write_str(field.name)?,
-            Subject::X(number) => write!(f, "x{number}")?,
-            Subject::Z(number) => write!(f, "z{number}")?,
-            Subject::P(number) => write!(f, "p{number}")?,
+            Subject::Register(register) => register.fmt(f)?,
             subject => {
                 let name = PLAIN.iter().find(|(_, other)| *other == subject);
                 f.write_str(name.map_or("", |(name, _)| name))?;

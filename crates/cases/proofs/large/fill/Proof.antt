@@ -1,4 +1,4 @@
--- The index stays within the length. Assumes nothing.
+-- `fill`: bytes put one by one. Invariant: the index stays within the length. Assumes nothing.
 use Prim.Native.Nat.{_-_, _≤_}
 use lib.ListN.{length}
 use mathlib.Core.Path.{_≡_}

@@ -1,4 +1,4 @@
--- The number of runs stays within the count. Assumes nothing.
+-- `runs`: heads and bytes put run by run. Invariant: place and start grow with the number of runs. Assumes nothing.
 use Prim.Native.Nat.{_+_, _-_, _*_, _≤_}
 use lib.ListN.{length}
 use mathlib.Core.Path.{_≡_}

@@ -1,4 +1,4 @@
--- The index stays within the bytes. Assumes nothing.
+-- `sum`: bytes added up. Invariant: the index stays within the bytes. Assumes nothing.
 use Prim.Native.Nat.{_-_, _≤_}
 use lib.ListN.{length}
 use borrow.Author.Needs.{needs}

@@ -1,7 +1,10 @@
 -- The verdicts in their order, with the store's plan. Assumes nothing.
+use mathlib.Core.Bool.{Bool, not}
 use mathlib.Core.Path.{_≡_, sym, ap, _∙_}
 use Rattle.encoding.specs.Encoding.{classFor, featureOf}
 use Rattle.encoding.specs.declared.Decoded.the-variants.{Known}
+use Rattle.encoding.specs.declared.Feature.{Feature}
+use Rattle.encoding.specs.declared.Store.{Store}
 use Rattle.writes.specs.LittleEndian.{Bytes}
 use Rattle.writes.proofs.LittleEndian.{bytes-at}
 use Rattle.elements.specs.Machine.{Machine, machine}
@@ -10,7 +13,8 @@ use Rattle.elements.specs.Elements.{elements}
 use Rattle.elements.specs.Plans.{stridedElements}
 use Rattle.elements.specs.declared.VectorPlan.{VectorPlan}
 use Rattle.elements.specs.declared.StridedPlan.{StridedPlan}
-use Rattle.checks.specs.Verdicts.{onStack, settled, verdictFor}
+use Rattle.checks.specs.Verdicts.{flagOn, illegal, onStack, settled, verdictFor}
+use Rattle.checks.specs.declared.Flags.{Flags}
 use Rattle.checks.specs.Steps.{vectorsIn, planOf, checkedBy}
 use Rattle.checks.specs.declared.Verdict.{Verdict}
 use Rattle.checks.specs.declared.Checked.the-variants as C
@@ -29,6 +33,13 @@ m a = machine (a .args .vb) (a .args .x .now) (a .args .sp) (a .args .z .now) (a
 answered : (a : tie.Start) (v w : Verdict) → v ≡ w → checkedBy v (planOf (m a) (a .args .store)) ≡ checkedBy w (planOf (m a) (a .args .store))
 answered a v w q = ap (λ (y : Verdict). checkedBy y (planOf (m a) (a .args .store))) q
 
+-- the tests by the store's feature
+off-is : (f : Flags) (x : Feature) (s : Store) {b : Bool} → x ≡ featureOf s → b ≡ not (flagOn f x) → b ≡ not (flagOn f (featureOf s))
+off-is f x s e q = q ∙ ap (λ (y : Feature). not (flagOn f y)) e
+
+illegal-is : (f : Flags) (x : Feature) (s : Store) {b : Bool} → x ≡ featureOf s → b ≡ illegal f x → b ≡ illegal f (featureOf s)
+illegal-is f x s e q = q ∙ ap (illegal f) e
+
 feature-for-requires : tie.Need-feature-for-requires
 feature-for-requires c κs = search needs
 
@@ -41,7 +52,7 @@ returns c =
     let g = a .args in
     let o = c .before .is-off in
     answered a _ _
-    (for-off (g .flags) (m a) (g .base) (g .room) (g .store) (o .result) (o .ensures (featureOf (g .store)) (c .before .before .feature-for .ensures))
+    (for-off (g .flags) (m a) (g .base) (g .room) (g .store) (o .result) (off-is (g .flags) _ (g .store) (c .before .before .feature-for .ensures) (o .ensures))
     (c .if1 .taken))
 
 is-illegal-requires : tie.Need-is-illegal-requires
@@ -55,8 +66,8 @@ returns-2 c =
     let o = c .before .before .before .is-off in
     let x = c .before .before .before .before .feature-for .ensures in
     answered a _ _
-    (for-illegal (g .flags) (m a) (g .base) (g .room) (g .store) (o .result) (o .ensures (featureOf (g .store)) x) (c .before .before .if1 .left)
-    (i .result) (i .ensures (featureOf (g .store)) x) (c .if2 .taken))
+    (for-illegal (g .flags) (m a) (g .base) (g .room) (g .store) (o .result) (off-is (g .flags) _ (g .store) x (o .ensures)) (c .before .before .if1 .left)
+    (i .result) (illegal-is (g .flags) _ (g .store) x (i .ensures)) (c .if2 .taken))
 
 is-on-stack-requires : tie.Need-is-on-stack-requires
 is-on-stack-requires c κs = search needs
@@ -79,8 +90,8 @@ from-6 k =
     let i = k .before .before .before .is-illegal in
     let o = k .before .before .before .before .before .is-off in
     let x = k .before .before .before .before .before .before .feature-for .ensures in
-    for-settled (g .flags) (m (st k)) (g .base) (g .room) (g .store) (o .result) (o .ensures (featureOf (g .store)) x)
-    (k .before .before .before .before .if1 .left) (i .result) (i .ensures (featureOf (g .store)) x) (k .before .before .if2 .left)
+    for-settled (g .flags) (m (st k)) (g .base) (g .room) (g .store) (o .result) (off-is (g .flags) _ (g .store) x (o .ensures))
+    (k .before .before .before .before .if1 .left) (i .result) (illegal-is (g .flags) _ (g .store) x (i .ensures)) (k .before .before .if2 .left)
 
 z-bytes : (k : At) → Bytes (st k .args .z .now)
 z-bytes k = bytes-at (st k .args .z .now) (λ i. k .before .before .before .before .before .before .before .before .shared-slice-known .given i .fits)

@@ -1,34 +1,40 @@
--- A row's test is membership, and the word belongs to no class passed. Assumes nothing.
-use mathlib.Core.Path.{_≡_, sym}
+-- `table::index_of`: a row's test is membership. Invariant: the word belongs to no class before i. Assumes nothing.
+use mathlib.Core.Path.{sym}
 use Prim.Native.Nat.{ℕ, _≤_, _<_, _-_}
 use native.Mathlib.Omega.{arith}
 use borrow.Author.Needs.{needs}
 use borrow.Author.Count.{below-more}
 use lib.Dec.{T}
+use lib.ListN.{length}
 use Rattle.encoding.specs.Classes.{classes, classAt, belongs, any, inside, maskBelow, maskOf}
 use Rattle.encoding.proofs.Rows.{column, Passes, passes, member, index-found, index-none}
 use Rattle.encoding.proofs.table.index_of.Statement.{statement}
 use Rattle.encoding.proofs.table.index_of.Tie as tie
 
 abbrev Inv-loop : tie.InvT-loop
-Inv-loop word i₀ i = (i ≤ 12) × ((k : ℕ) → k < i → T (belongs (classAt k) word) → ⊥)
+Inv-loop word rows i₀ i = (i ≤ length classes) × ((k : ℕ) → k < i → T (belongs (classAt k) word) → ⊥)
 
 abbrev μ-loop : tie.MeasureT-loop
-μ-loop word i₀ i = 12 - i
+μ-loop word rows i₀ i = length classes - i
 
 loop-holds : tie.Need-loop-holds Inv-loop μ-loop
+unfolding classes
 loop-holds c = search needs
 
 mul-row : tie.Need-mul-row Inv-loop μ-loop
+unfolding classes
 mul-row c = search needs
 
 array-copy-out-row : tie.Need-array-copy-out-row Inv-loop μ-loop
+unfolding classes
 array-copy-out-row c = search needs
 
 array-read-if1 : tie.Need-array-read-if1 Inv-loop μ-loop
+unfolding classes
 array-read-if1 c = search needs
 
 array-read-if1-2 : tie.Need-array-read-if1-2 Inv-loop μ-loop
+unfolding classes
 array-read-if1-2 c = search needs
 
 returns : tie.Need-returns Inv-loop μ-loop
@@ -40,9 +46,11 @@ returns c =
     sym (index-found i w (omega arith) (passes i w (omega arith) t))
 
 add-i : tie.Need-add-i Inv-loop μ-loop
+unfolding classes
 add-i c = omega arith
 
 loop-less : tie.Need-loop-less Inv-loop μ-loop
+unfolding classes
 loop-less c = omega arith
 
 loop-again : tie.Need-loop-again Inv-loop μ-loop

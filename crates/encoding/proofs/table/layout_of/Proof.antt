@@ -1,4 +1,4 @@
--- A class's numbers are the digits of its own. Assumes nothing.
+-- `table::layout_of`: a class's numbers are digits of its number in PACKED. Assumes nothing.
 use mathlib.Core.Path.{_≡_}
 use Prim.Native.Nat.{_/_, _^_, _<_}
 use lib.ListN.{length}
@@ -16,9 +16,6 @@ use Rattle.encoding.proofs.table.layout_of.Tie as tie
 
 packed-requires : tie.Need-packed-requires
 packed-requires c κs = search needs
-
-feature-at-requires : tie.Need-feature-at-requires
-feature-at-requires c κs = search needs
 
 digit-requires : tie.Need-digit-requires
 digit-requires c κs = search needs
@@ -47,23 +44,24 @@ digit-requires-2 c κs = search needs
 returns : tie.Need-returns
 unfolding classes any has every lowest packedOf digitsAre
 returns c =
-    let k = c .before .before .before .before .before .before .before .before .before .before .args .k in
+    let b = c .before .before .before .before in
+    let p = b .before .before .before .before in
+    let k = p .before .args .k in
     let h : k < length classes = search needs in
-    let n = c .before .before .before .before .before .before .before .before .before .packed in
+    let n = p .packed in
     let one = digit-at k h (n .result) (n .ensures) (λ n. n) in
     let two = digit-at k h (n .result) (n .ensures) (λ n. 2 ^ n) in
     let e : _≡_ {A = Layout} _ (layoutOf (classAt k)) =
     λ i.
     record {
-      feature = c .before .before .before .before .before .before .before .before .feature-at .ensures .0 i;
-      nreg = one (λ c. c .nreg) 7 _ (c .before .before .before .before .before .before .before .digit .ensures .0) tt i;
-      xs = two (λ c. 2 ^ width c xs) 6 _ (c .before .before .before .before .before .before .power .ensures) tt i;
-      rm = two (λ c. 2 ^ width c Rm) 5 _ (c .before .before .before .before .before .power2 .ensures) tt i;
-      imm4 = two (λ c. 2 ^ width c imm4) 4 _ (c .before .before .before .before .power3 .ensures) tt i;
-      zt = two (λ c. 2 ^ width c (ztOf c)) 3 _ (c .before .before .before .power4 .ensures) tt i;
-      step = two (λ c. c .esize / 8) 2 _ (c .before .before .power5 .ensures) tt i;
-      size = two (λ c. c .msize / 8) 1 _ (c .before .power6 .ensures) tt i;
-      scale = one (λ c. c .scale) 0 _ (c .digit2 .ensures .0) tt i;
+      nreg = one (λ c. c .nreg) 9 _ (b .before .before .before .digit .ensures .0) tt i;
+      xs = two (λ c. 2 ^ width c xs) 8 _ (b .before .before .power .ensures) tt i;
+      rm = two (λ c. 2 ^ width c Rm) 7 _ (b .before .power2 .ensures) tt i;
+      imm4 = two (λ c. 2 ^ width c imm4) 6 _ (b .power3 .ensures) tt i;
+      zt = two (λ c. 2 ^ width c (ztOf c)) 5 _ (c .before .before .before .power4 .ensures) tt i;
+      step = two (λ c. c .esize / 8) 4 _ (c .before .before .power5 .ensures) tt i;
+      size = two (λ c. c .msize / 8) 3 _ (c .before .power6 .ensures) tt i;
+      scale = one (λ c. c .scale) 2 _ (c .digit2 .ensures .0) tt i;
     } in
     (e, layout-bounded (classAt k) _ e (small-at k h))
 
@@ -72,7 +70,6 @@ layout-of-spec =
     tie.close
     (tie.spec
     packed-requires
-    feature-at-requires
     digit-requires
     power-requires
     power-requires-2

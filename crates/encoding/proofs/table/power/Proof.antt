@@ -1,4 +1,4 @@
--- A digit's power of 2 is a small number. Assumes nothing.
+-- `table::power`: a digit's power of 2 is a small number. Assumes nothing.
 use mathlib.Core.Path.{_∙_, ap}
 use Prim.Native.Nat.{ℕ, _%_, _^_}
 use native.Mathlib.Nat.{one-mul, mod-eq-of-lt}

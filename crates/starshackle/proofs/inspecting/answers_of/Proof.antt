@@ -1,4 +1,4 @@
--- By its case. Assumes nothing.
+-- `inspecting::answers_of`: by its case. Assumes nothing.
 use mathlib.Core.Path.{sym, ap, _∙_}
 use mathlib.Core.List.{_∷_, []}
 use Prim.Native.Nat.{ℕ}

@@ -1,4 +1,4 @@
--- By what making answered. Assumes nothing.
+-- `patches::answers_of`: by what making answered. Assumes nothing.
 use mathlib.Core.Path.{sym, ap}
 use Rattle.making.specs.Making.{makingNumbers}
 use borrow.Author.Needs.{needs}

@@ -1,4 +1,4 @@
--- By the verdict. Assumes nothing.
+-- `verdicts::answers_of`: by the verdict. Assumes nothing.
 use mathlib.Core.Path.{sym, ap}
 use Rattle.checks.specs.Verdicts.{numbers}
 use borrow.Author.Needs.{needs}

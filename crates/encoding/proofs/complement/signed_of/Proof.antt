@@ -1,0 +1,30 @@
+-- `complement::signed_of`: the other bits twice are the bits. Assumes nothing.
+use mathlib.Core.Path.{_≡_, ap}
+use Prim.Native.Nat.{_-_}
+use native.Mathlib.Omega.{arith}
+use mir.Syntax.{w64}
+use mir.Val.{toZ}
+use borrow.Author.Needs.{needs}
+use Rattle.encoding.proofs.complement.signed_of.Statement.{statement}
+use Rattle.encoding.proofs.complement.signed_of.Tie as tie
+
+cast-result : tie.Need-cast-result
+cast-result c = search needs
+
+sub-result : tie.Need-sub-result
+sub-result c = search needs
+
+cast-result-2 : tie.Need-cast-result-2
+cast-result-2 c = search needs
+
+returns : tie.Need-returns
+returns c = search needs
+
+returns-2 : tie.Need-returns-2
+returns-2 c =
+    let b = c .before .args .bits in
+    let e : 18446744073709551615 - (18446744073709551615 - b) ≡ b = omega arith in
+    ap (toZ w64) e
+
+pub signed-of-spec : {M : Type 1} → statement M
+signed-of-spec = tie.close (tie.spec cast-result sub-result cast-result-2 returns returns-2)

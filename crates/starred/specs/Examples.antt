@@ -1,0 +1,57 @@
+-- Document 01's whole example: two stores of this model, done over one window, through demand 3. Its proof is `whole-example` in
+-- proofs/Examples.antt. Assumes nothing.
+use Prim.Native.Nat.{ℕ}
+use mathlib.Core.List.{List, [], _∷_, _++_}
+use mathlib.Core.Path.{_≡_}
+use lib.ListN.{length, replicate}
+use Rattle.writes.specs.Examples.{examplePatch}
+use Rattle.elements.specs.Machine.{Machine, machine}
+use Rattle.checks.specs.Verdicts.{verdictOf}
+use Rattle.checks.specs.declared.Verdict.the-variants.{Done}
+use Rattle.making.specs.Making.{patchOf}
+use Rattle.starred.specs.Cases.{plain, streaming}
+use Rattle.demands.specs.Demand3.{DoneOver, HandsOut, LeaveTheSame}
+
+-- four 32-bit elements by their low bytes, with the same byte in their other places
+abbrev pub words : ℕ → ℕ → ℕ → ℕ → ℕ → List ℕ
+words r a b c d = a ∷ r ∷ r ∷ r ∷ b ∷ r ∷ r ∷ r ∷ c ∷ r ∷ r ∷ r ∷ d ∷ r ∷ r ∷ r ∷ []
+
+-- "VB 16, base 1000h", in X0, with data in Z0 and offsets in Z1, "all active": bits 0, 4, 8 and 12 of P0
+abbrev pub holding : List ℕ → List ℕ → Machine
+holding offsets stored =
+    machine 16 (0x1000 ∷ replicate 30 0) 0 (stored ++ (offsets ++ replicate 480 0)) (0x11 ∷ 0x11 ∷ replicate 30 0)
+
+-- "class 6": Zm 1, UXTW, Pg 0, Rn 0, Zt 0
+abbrev pub word : ℕ
+word = 0xE4418000
+
+-- "offsets 0, 1, 1, 5, bytes A1 A2 A3 A4"; "Offsets 1, 0, 5, 5 with A3 A1 00 A4"
+abbrev pub first : Machine
+first = holding (words 0 0 1 1 5) (words 0xFF 0xA1 0xA2 0xA3 0xA4)
+
+abbrev pub second : Machine
+second = holding (words 0 1 0 5 5) (words 0xFF 0xA3 0xA1 0x00 0xA4)
+
+-- a machine of zeros: nothing is active
+abbrev pub idle : Machine
+idle = machine 16 (replicate 31 0) 0 (replicate 512 0) (replicate 32 0)
+
+pub record WholeExample : Type 0 where
+  pub first-done : DoneOver plain first 0x1000 6 word
+  pub second-done : DoneOver plain second 0x1000 6 word
+  -- "Four elements, four bytes moved, and the patch is 31 bytes"
+  pub counted : verdictOf plain first 0x1000 6 word ≡ Done 4 4
+  pub first-patch : HandsOut plain first 0x1000 6 word examplePatch
+  -- the second store gives "the same patch", so that both leave the same memory from every filling
+  pub second-patch : HandsOut plain second 0x1000 6 word examplePatch
+  pub same-memory : LeaveTheSame 0x1000 6 plain first word plain second word
+  -- "No active element, L = 0: done, patch `50 45 00 00`."
+  pub idle-done : DoneOver plain idle 0x1000 0 word
+  pub idle-patch : HandsOut plain idle 0x1000 0 word (0x50 ∷ 0x45 ∷ 0 ∷ 0 ∷ [])
+
+-- "the largest of one store 1,040": class 11 with all 128 elements active (counter 8008h in P8), VB 256
+abbrev pub largest : Machine
+largest = machine 256 (0x1000 ∷ replicate 30 0) 0 (replicate 8192 0) (replicate 256 0 ++ (0x08 ∷ 0x80 ∷ replicate 254 0))
+
+abbrev pub LargestStorePatch : Type 0
+LargestStorePatch = DoneOver streaming largest 0x1000 1024 0xA160E000 × (length (patchOf largest 0xA160E000) ≡ 1040)
