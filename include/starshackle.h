@@ -7,11 +7,11 @@
  * `fields`), whatever the verdict. Every verdict but STARSHACKLE_DONE is a refusal: then memory and patch are as they came.
  *
  * What a caller owes; nothing checks it:
- * - `fields` points to 8, `answer` to 5, `x` to 31 numbers, aligned as uint64_t is. They are never null.
+ * - `fields` points to 8, `x` to 31, `answer` to 5 numbers, in starshackle_store to 6, aligned as uint64_t is. None is ever null.
  * - `z`, `p`, `memory` and `patch` point to as many bytes as the length behind them says, or more. They need no alignment. With
  *   length 0 they may be null. (Tried with each of them, in each function that takes it: tests/c/test_starshackle.c.)
- * - What a call writes (`fields` of starshackle_decode, `answer`, `memory`, `patch` of starshackle_make_patch) overlaps nothing else
- *   that the call is lent. What it only reads may overlap.
+ * - What a call writes (`fields` of starshackle_decode, `answer`, `memory`, `patch` of starshackle_store) overlaps nothing else that
+ *   the call is lent: memory and patch don't overlap either. What it only reads may overlap.
  * - Nobody else writes what is lent until the call is back.
  *
  * Nothing is asked of the content: every number, byte and length gets its verdict. No pointer is kept, no memory is allocated, and
@@ -91,7 +91,7 @@ enum starshackle_field {
 
 /* Lengths in bytes. */
 enum starshackle_length {
-    STARSHACKLE_LARGEST_STORE_PATCH = 1040, /* no store's patch is longer: a buffer for starshackle_make_patch with room for all */
+    STARSHACKLE_LARGEST_STORE_PATCH = 1040, /* no store's patch is longer: a buffer for starshackle_store with room for all */
     STARSHACKLE_LARGEST_PATCH = 1796,       /* no patch is longer */
     STARSHACKLE_LARGEST_WINDOW = 65536      /* no window is longer */
 };
@@ -125,7 +125,15 @@ uint64_t starshackle_decode(uint32_t word, uint64_t fields[8]);
 uint64_t starshackle_encode(const uint64_t fields[8], uint64_t answer[5]);
 
 /*
- * Runs the store that a word names: writes the bytes of its active elements, lowest element first, all of them or none.
+ * A patch is a string of bytes that says which bytes are written where. Each run: 50 52 (hexadecimal), the start address in 8 bytes,
+ * the length in 2, then that many bytes. Behind the last run: 50 45, and the number of runs in 2 bytes. Numbers are little-endian.
+ * There are 0 to 64 runs; lengths are at least 1 and together at most 1,024; starts ascend, with at least one address between a run
+ * and the next; no run passes 2^64; nothing follows.
+ */
+
+/*
+ * Runs the store that a word names and makes its patch: writes the bytes of its active elements to memory, lowest element first, and
+ * to the patch buffer the bytes that they leave there, each with its address. Writes both, or neither.
  *
  *   vb      VB, the vector length in bytes
  *   flags   bits of enum starshackle_flag
@@ -133,30 +141,39 @@ uint64_t starshackle_encode(const uint64_t fields[8], uint64_t answer[5]);
  *   sp      SP: register 31 as a base. Register 31 as Rm is zero.
  *   z       the Z registers: register r from byte r * vb on, little-endian
  *   z_len   how many bytes they are: 32 * vb, or the verdict is 2
- *   p       the P registers: register g from byte g * vb / 8 on, bit i in byte i / 8 at place i % 8
+ *   p       the P registers: register g from byte g * vb / 8 on, bit i of it bit i % 8 of its byte i / 8
  *   p_len   how many bytes they are: 2 * vb, or the verdict is 2
  *   base    the window's address: that of memory[0]
  *   memory  the window's bytes
  *   memory_len  how many bytes the window has
  *   word    the instruction word
- *   answer  for the answer
+ *   patch   where the patch goes
+ *   patch_len  how many bytes there is room for; STARSHACKLE_LARGEST_STORE_PATCH is always enough
+ *   answer  for the answer; answer[5] has no meaning yet and is 0
  *
- * DONE   answer[2] active elements, answer[3] bytes moved (an address that two elements write counts twice); else 0.
- *        Bytes of memory that no active element covers are as they came.
- * FAULT  answer[0] the lowest active element with a byte outside the window, answer[1] its first address; else 0.
- *        Elements are numbered from 0, a strided store's through all its registers.
+ * DONE     answer[2] active elements, answer[3] bytes moved (an address that two elements write counts twice), answer[4] the patch's
+ *          length; else 0. Bytes of memory that no active element covers are as they came. The patch is the first answer[4] bytes of
+ *          the buffer; bytes behind it are as they came.
+ * FAULT    answer[0] the lowest active element with a byte outside the window, answer[1] its first address; else 0.
+ *          Elements are numbered from 0, a strided store's through all its registers.
+ * NO_ROOM  zeros: the patch has more than patch_len bytes.
  * LENGTH, REGISTERS, WINDOW, UNDEFINED, ILLEGAL, STACK  zeros.
  *
- * z, p and memory may be null with length 0; x and answer never. memory and answer overlap nothing else of the call.
+ * Verdict, answer and patch don't depend on what the window holds, and applying the patch to any content of it leaves what the store
+ * leaves there. A caller who wants only the patch lends a scratch window: memory_len bytes of any content. One who wants only the
+ * memory lends a scratch buffer of STARSHACKLE_LARGEST_STORE_PATCH bytes.
+ *
+ * z, p, memory and patch may be null with length 0; x and answer never. memory, patch and answer overlap neither each other nor
+ * anything else of the call.
  */
-uint64_t starshackle_run(size_t vb, uint64_t flags, const uint64_t x[31], uint64_t sp, const uint8_t *z, size_t z_len,
-                         const uint8_t *p, size_t p_len, uint64_t base, uint8_t *memory, size_t memory_len, uint32_t word,
-                         uint64_t answer[5]);
+uint64_t starshackle_store(size_t vb, uint64_t flags, const uint64_t x[31], uint64_t sp, const uint8_t *z, size_t z_len,
+                           const uint8_t *p, size_t p_len, uint64_t base, uint8_t *memory, size_t memory_len, uint32_t word,
+                           uint8_t *patch, size_t patch_len, uint64_t answer[6]);
 
 /*
  * What one element of the word's store is. No flag and no window is looked at.
  *
- *   vb, x, sp, z, z_len, p, p_len, word  as in starshackle_run
+ *   vb, x, sp, z, z_len, p, p_len, word  as in starshackle_store
  *   e       the element's number, from 0 on, a strided store's through all its registers
  *   answer  for the answer
  *
@@ -169,13 +186,6 @@ uint64_t starshackle_run(size_t vb, uint64_t flags, const uint64_t x[31], uint64
  */
 uint64_t starshackle_element(size_t vb, const uint64_t x[31], uint64_t sp, const uint8_t *z, size_t z_len, const uint8_t *p,
                              size_t p_len, uint32_t word, uint64_t e, uint64_t answer[5]);
-
-/*
- * A patch is a string of bytes that says which bytes are written where. Each run: 50 52 (hexadecimal), the start address in 8 bytes,
- * the length in 2, then that many bytes. Behind the last run: 50 45, and the number of runs in 2 bytes. Numbers are little-endian.
- * There are 0 to 64 runs; lengths are at least 1 and together at most 1,024; starts ascend, with at least one address between a run
- * and the next; no run passes 2^64; nothing follows.
- */
 
 /*
  * Applies a patch to the window: writes every byte of it, or none.
@@ -210,29 +220,6 @@ uint64_t starshackle_apply(uint64_t base, uint8_t *memory, size_t memory_len, co
  * patch may be null with length 0; answer never. answer overlaps nothing else of the call.
  */
 uint64_t starshackle_judge(const uint8_t *patch, size_t patch_len, uint64_t answer[5]);
-
-/*
- * Makes the patch of the store that a word names: the bytes that running it leaves in the window, each with its address. The
- * window's memory isn't needed. Applying the patch to any content of the window leaves what running the store there leaves.
- *
- *   vb, flags, x, sp, z, z_len, p, p_len, word  as in starshackle_run
- *   base    the window's address
- *   length  how many bytes the window has
- *   patch   where the patch goes
- *   patch_len  how many bytes there is room for; STARSHACKLE_LARGEST_STORE_PATCH is always enough
- *   answer  for the answer
- *
- * DONE     answer[2] active elements, answer[3] bytes moved, as in starshackle_run; answer[4] the patch's length; else 0. The patch
- *          is the first answer[4] bytes of the buffer; bytes behind it are as they came.
- * FAULT    as in starshackle_run.
- * NO_ROOM  zeros: the patch has more than patch_len bytes.
- * LENGTH, REGISTERS, WINDOW, UNDEFINED, ILLEGAL, STACK  zeros.
- *
- * z, p and patch may be null with length 0; x and answer never. patch and answer overlap nothing else of the call.
- */
-uint64_t starshackle_make_patch(size_t vb, uint64_t flags, const uint64_t x[31], uint64_t sp, const uint8_t *z, size_t z_len,
-                                const uint8_t *p, size_t p_len, uint64_t base, uint64_t length, uint32_t word, uint8_t *patch,
-                                size_t patch_len, uint64_t answer[5]);
 
 #ifdef __cplusplus
 }

@@ -12,19 +12,16 @@ whole example of document 01, `st1b { z1.s }, p0, [x0, z2.s, uxtw]`:
 >>> machine.z[16:32] = struct.pack("<4I", 0xA1, 0xA2, 0xA3, 0xA4)
 >>> machine.z[32:48] = struct.pack("<4I", 0, 1, 1, 5)
 >>> machine.p[0:2] = b"\\xff\\xff"
->>> memory = bytearray(8)
->>> run(machine, 0x1000, memory, 0xE4428001)
-Ran(verdict=<Verdict.DONE: 0>, element=0, address=0, elements=4, bytes=4)
+>>> memory, patch = bytearray(8), bytearray(LARGEST_STORE_PATCH)
+>>> stored = store(machine, 0x1000, memory, 0xE4428001, patch)
+>>> stored
+Stored(verdict=<Verdict.DONE: 0>, element=0, address=0, elements=4, bytes=4, length=31)
 >>> memory.hex(" ")
 'a1 a3 00 00 00 a4 00 00'
 
-Its patch says the same without the memory:
+The patch says the same without the memory:
 
->>> patch = bytearray(LARGEST_STORE_PATCH)
->>> made = make_patch(machine, 0x1000, 8, 0xE4428001, patch)
->>> made
-Made(verdict=<Verdict.DONE: 0>, element=0, address=0, elements=4, bytes=4, length=31)
->>> patch[:made.length].hex()
+>>> patch[:stored.length].hex()
 '505200100000000000000200a1a3505205100000000000000100a450450200'
 
 Memory and patch are bytearrays that a call changes in place; every verdict but DONE leaves them as they came. All other buffers are
@@ -49,8 +46,8 @@ from enum import IntEnum, IntFlag
 from typing import List, Optional, Union
 
 __all__ = [
-    "Verdict", "Flags", "Extension", "Machine", "Store", "Decoded", "Encoded", "Ran", "Element", "Applied", "Judged", "Made",
-    "decode", "encode", "run", "element", "apply", "judge", "make_patch",
+    "Verdict", "Flags", "Extension", "Machine", "Store", "Decoded", "Encoded", "Stored", "Element", "Applied", "Judged",
+    "decode", "encode", "store", "element", "apply", "judge",
     "LENGTHS", "LARGEST_STORE_PATCH", "LARGEST_PATCH", "LARGEST_WINDOW",
 ]
 
@@ -58,7 +55,7 @@ LENGTHS = (16, 32, 64, 128, 256)
 """The lengths that a vector may have, in bytes."""
 
 LARGEST_STORE_PATCH = 1040
-"""No store's patch is longer: a buffer for `make_patch` with room for all."""
+"""No store's patch is longer: a buffer for `store` with room for all."""
 
 LARGEST_PATCH = 1796
 """No patch is longer."""
@@ -108,8 +105,8 @@ class Extension(IntEnum):
 class Machine:
     """The registers that a store reads, and the machine's flags. What isn't given is zero.
 
-    vb is the vector length in bytes. x has X0 to X30. Z register r starts at byte r * vb of z, P register g at byte g * vb // 8 of p,
-    with bit i in byte i // 8 at place i % 8.
+    vb is the vector length in bytes. x has X0 to X30. Z register r starts at byte r * vb of z, P register g at byte g * vb // 8 of
+    p; bit i of it is bit i % 8 of its byte i // 8.
 
     >>> machine = Machine(vb=32)
     >>> len(machine.x), len(machine.z), len(machine.p)
@@ -172,30 +169,31 @@ class Encoded(_Answer):
 
 
 @dataclass(frozen=True)
-class Ran(_Answer):
-    """What running a store answers.
+class Stored(_Answer):
+    """What a store has written.
 
-    DONE: elements that were active, bytes that they moved. FAULT: the lowest active element with a byte outside the window, and its
-    first address. What a verdict doesn't have is 0.
+    DONE: elements that were active, bytes that they moved, and the patch's length. FAULT: the lowest active element with a byte
+    outside the window, and its first address. What a verdict doesn't have is 0.
     """
 
     element: int
     address: int
     elements: int
     bytes: int
+    length: int
 
 
 @dataclass(frozen=True)
 class Element(_Answer):
     """What one element of a store is.
 
-    DONE: whether it is active, its first address, the place of its first byte in z, how many bytes it writes, and how many elements
+    DONE: whether it is active, its first address, the index of its first byte in z, how many bytes it writes, and how many elements
     the store has, active or not. Past the last element all but that number is 0, as all is in a refusal.
     """
 
     active: bool
     address: int
-    place: int
+    index: int
     bytes: int
     elements: int
 
@@ -228,24 +226,11 @@ class Judged(_Answer):
     bytes: int
 
 
-@dataclass(frozen=True)
-class Made(_Answer):
-    """What making a patch answers.
-
-    DONE: active elements and the bytes that they move, and the patch's length. FAULT: as in `Ran`. What a verdict doesn't have is 0.
-    """
-
-    element: int
-    address: int
-    elements: int
-    bytes: int
-    length: int
-
-
 # ---- the library
 
 _Fields = ctypes.c_uint64 * 8
 _Answers = ctypes.c_uint64 * 5
+_StoreAnswers = ctypes.c_uint64 * 6
 _X = ctypes.c_uint64 * 31
 
 _U32, _U64, _SIZE, _BYTES = ctypes.c_uint32, ctypes.c_uint64, ctypes.c_size_t, ctypes.c_void_p
@@ -256,11 +241,10 @@ _REGISTERS = [_X, _U64, *_SLICE, *_SLICE]
 _PARAMETERS = {
     "starshackle_decode": [_U32, _Fields],
     "starshackle_encode": [_Fields, _Answers],
-    "starshackle_run": [_SIZE, _U64, *_REGISTERS, _U64, *_SLICE, _U32, _Answers],
+    "starshackle_store": [_SIZE, _U64, *_REGISTERS, _U64, *_SLICE, _U32, *_SLICE, _StoreAnswers],
     "starshackle_element": [_SIZE, *_REGISTERS, _U32, _U64, _Answers],
     "starshackle_apply": [_U64, *_SLICE, *_SLICE, _Answers],
     "starshackle_judge": [*_SLICE, _Answers],
-    "starshackle_make_patch": [_SIZE, _U64, *_REGISTERS, _U64, _U64, _U32, *_SLICE, _Answers],
 }
 
 
@@ -315,11 +299,11 @@ def _read(name, value):
     return _slice(value)
 
 
-def _changed(name, value, **read):
-    """A bytearray that the call changes. It must be none of those that the call reads."""
+def _changed(name, value, **others):
+    """A bytearray that the call changes. It must be none of the others that are lent: two bytearrays share no byte."""
     if not isinstance(value, bytearray):
         raise TypeError(f"{name} must be a bytearray, which is changed in place, not {type(value).__name__}")
-    for other, buffer in read.items():
+    for other, buffer in others.items():
         if buffer is value:
             raise ValueError(f"{name} and {other} must not be the same bytearray")
     return _slice(value)
@@ -383,37 +367,47 @@ def encode(store):
     return Encoded(verdict, answer[4] if verdict is Verdict.DONE else None)
 
 
-def run(machine, base, memory, word):
-    """Runs the store that a word names over the window of `memory`, whose first byte has the address `base`. Answers `Ran`.
+def store(machine, base, memory, word, patch):
+    """Runs the store that a word names over the window of `memory`, whose first byte has the address `base`, and makes its patch.
+    Answers `Stored`.
 
-    memory is a bytearray, changed in place: by all active elements, lowest first, when the verdict is DONE, and else not at all.
+    memory and patch are two bytearrays, changed in place when the verdict is DONE, and else not at all. All active elements go to
+    memory, lowest first. The patch is the first bytes of patch, as many as the answer's length; bytes behind it are as they came.
+
+    Answer and patch don't depend on what memory holds, and applying the patch there leaves what the store leaves. Who wants only
+    the patch lends a scratch window, with anything in it; who wants only the memory a scratch `bytearray(LARGEST_STORE_PATCH)`.
 
     >>> machine = Machine(flags=Flags.SME2 | Flags.STREAMING)  # st1d { z0.d, z8.d }, pn8, [x0]
     >>> machine.z[0:16], machine.z[128:144] = b"0123456789abcdef", b"ghijklmnopqrstuv"
     >>> machine.p[16:18] = b"\\x38\\x00"  # the first three elements of 64 bits
-    >>> memory = bytearray(b"." * 28)
-    >>> run(machine, 0, memory, 0xA1606000)
-    Ran(verdict=<Verdict.DONE: 0>, element=0, address=0, elements=3, bytes=24)
+    >>> memory, patch = bytearray(b"." * 28), bytearray(b"." * 42)
+    >>> store(machine, 0, memory, 0xA1606000, patch)
+    Stored(verdict=<Verdict.DONE: 0>, element=0, address=0, elements=3, bytes=24, length=40)
     >>> memory
     bytearray(b'0123456789abcdefghijklmn....')
-    >>> run(machine, 0, bytearray(20), 0xA1606000)
-    Ran(verdict=<Verdict.FAULT: 7>, element=2, address=16, elements=0, bytes=0)
+    >>> patch[12:]
+    bytearray(b'0123456789abcdefghijklmnPE\\x01\\x00..')
+    >>> store(machine, 0, bytearray(20), 0xA1606000, patch)
+    Stored(verdict=<Verdict.FAULT: 7>, element=2, address=16, elements=0, bytes=0, length=0)
+    >>> store(machine, 0, memory, 0xA1606000, bytearray(39)).verdict
+    <Verdict.NO_ROOM: 8>
     """
-    lent = _machine(machine)
     base, word = _number("base", base, 64), _number("word", word, 32)
-    window = _changed("memory", memory, z=machine.z, p=machine.p)
-    answer = _Answers()
-    verdict = Verdict(_library.starshackle_run(*lent, base, *window, word, answer))
-    return Ran(verdict, *answer[:4])
+    lent = _machine(machine)
+    window = _changed("memory", memory, z=machine.z, p=machine.p, patch=patch)
+    string = _changed("patch", patch, z=machine.z, p=machine.p)
+    answer = _StoreAnswers()
+    verdict = Verdict(_library.starshackle_store(*lent, base, *window, word, *string, answer))
+    return Stored(verdict, *answer[:5])
 
 
 def element(machine, word, number):
     """What the element with this number of the word's store is; no flag and no window is looked at. Answers `Element`.
 
     >>> element(Machine(), 0xA1606000, 3)
-    Element(verdict=<Verdict.DONE: 0>, active=False, address=24, place=136, bytes=8, elements=4)
+    Element(verdict=<Verdict.DONE: 0>, active=False, address=24, index=136, bytes=8, elements=4)
     >>> element(Machine(), 0xA1606000, 4)
-    Element(verdict=<Verdict.DONE: 0>, active=False, address=0, place=0, bytes=0, elements=4)
+    Element(verdict=<Verdict.DONE: 0>, active=False, address=0, index=0, bytes=0, elements=4)
     """
     vb, _, *registers = _machine(machine)
     word, number = _number("word", word, 32), _number("number", number, 64)
@@ -456,26 +450,3 @@ def judge(patch):
     answer = _Answers()
     verdict = Verdict(_library.starshackle_judge(*string, answer))
     return Judged(verdict, *answer[:4])
-
-
-def make_patch(machine, base, length, word, patch):
-    """Makes the patch of the word's store, for the window of `length` bytes at the address `base`. Answers `Made`.
-
-    patch is a bytearray, changed in place: when the verdict is DONE its first bytes, as many as the answer's length, are the patch.
-    Bytes behind it, and all of them in a refusal, are as they came.
-
-    >>> machine = Machine(flags=Flags.SVE)  # nothing is active
-    >>> patch = bytearray(6)
-    >>> make_patch(machine, 0x1000, 0, 0xE4428001, patch)
-    Made(verdict=<Verdict.DONE: 0>, element=0, address=0, elements=0, bytes=0, length=4)
-    >>> patch
-    bytearray(b'PE\\x00\\x00\\x00\\x00')
-    >>> make_patch(machine, 0x1000, 0, 0xE4428001, bytearray(3)).verdict
-    <Verdict.NO_ROOM: 8>
-    """
-    lent = _machine(machine)
-    base, length, word = _number("base", base, 64), _number("length", length, 64), _number("word", word, 32)
-    string = _changed("patch", patch, z=machine.z, p=machine.p)
-    answer = _Answers()
-    verdict = Verdict(_library.starshackle_make_patch(*lent, base, length, word, *string, answer))
-    return Made(verdict, *answer)

@@ -25,8 +25,10 @@ static void check(int line, int holds, const char *what)
 
 /* ---- answers */
 
-static uint64_t answer[5];
+/* starshackle_store has six entries, the others have five and leave the last alone. */
+static uint64_t answer[6];
 static uint64_t fields[8];
+static const uint64_t UNWRITTEN = UINT64_C(0x5A5A5A5A5A5A5A5A);
 
 static void show(const char *name, uint64_t number, const uint64_t *entries, size_t count)
 {
@@ -48,18 +50,21 @@ static void expect(int line, const char *what, uint64_t number, const uint64_t *
     fail(line, what);
 }
 
-static void expect5(int line, const char *what, uint64_t number, uint64_t number2, uint64_t a, uint64_t b, uint64_t c, uint64_t d,
-                    uint64_t e)
+static void expect_answer(int line, const char *what, uint64_t number, uint64_t number2, uint64_t a, uint64_t b, uint64_t c,
+                          uint64_t d, uint64_t e, uint64_t f)
 {
-    uint64_t wanted[5];
-    wanted[0] = a, wanted[1] = b, wanted[2] = c, wanted[3] = d, wanted[4] = e;
-    expect(line, what, number, answer, number2, wanted, 5);
-    memset(answer, 0x5A, sizeof answer); /* so that the next call has to write all entries */
+    uint64_t wanted[6];
+    wanted[0] = a, wanted[1] = b, wanted[2] = c, wanted[3] = d, wanted[4] = e, wanted[5] = f;
+    expect(line, what, number, answer, number2, wanted, 6);
+    memset(answer, 0x5A, sizeof answer); /* so that the next call has to write its entries */
 }
 
-/* A call that answers into `answer`, its verdict and all five entries. */
-#define ANSWERS(call, number, a, b, c, d, e) expect5(__LINE__, #call, call, number, a, b, c, d, e)
+/* A call that answers into `answer`: its verdict and all its entries, of starshackle_store those that aren't always 0. */
+#define ANSWERS(call, number, a, b, c, d, e) expect_answer(__LINE__, #call, call, number, a, b, c, d, e, UNWRITTEN)
 #define REFUSED(call, number) ANSWERS(call, number, 0, 0, 0, 0, 0)
+#define STORES(call, number, e, address, elements, bytes, length) \
+    expect_answer(__LINE__, #call, call, number, e, address, elements, bytes, length, 0)
+#define STORE_REFUSED(call, number) STORES(call, number, 0, 0, 0, 0, 0)
 
 /* ---- a machine and its window, which has bytes before and behind it that no call may touch */
 
@@ -91,20 +96,27 @@ static void fill(void)
     memcpy(patch_before, patch_area, sizeof patch_area);
 }
 
+/* Another filling of the window. */
+static void refill(uint8_t byte)
+{
+    memset(memory, byte, MOST_MEMORY);
+    memcpy(memory_before, memory_area, sizeof memory_area);
+}
+
 static int untouched(void)
 {
     return memcmp(memory_before, memory_area, sizeof memory_area) == 0 && memcmp(patch_before, patch_area, sizeof patch_area) == 0;
 }
 
 /* What is expected, put where it is expected, so that `untouched` compares the rest too. */
-static void expect_memory(size_t place, uint8_t byte)
+static void expect_memory(size_t offset, uint8_t byte)
 {
-    memory_before[FENCE + place] = byte;
+    memory_before[FENCE + offset] = byte;
 }
 
-static void expect_patch(const uint8_t *bytes, size_t length)
+static void expect_patch(size_t index, const uint8_t *bytes, size_t length)
 {
-    memcpy(patch_before + FENCE, bytes, length);
+    memcpy(patch_before + FENCE + index, bytes, length);
 }
 
 /* Zeros, with a window of `length` bytes at `base`. */
@@ -139,14 +151,10 @@ static void all_active(void)
     memset(m.p, 0xFF, sizeof m.p);
 }
 
-static uint64_t run(uint32_t word)
+static uint64_t store(uint32_t word, size_t room)
 {
-    return starshackle_run(m.vb, m.flags, m.x, m.sp, m.z, m.z_len, m.p, m.p_len, m.base, memory, m.length, word, answer);
-}
-
-static uint64_t make(uint32_t word, size_t room)
-{
-    return starshackle_make_patch(m.vb, m.flags, m.x, m.sp, m.z, m.z_len, m.p, m.p_len, m.base, m.length, word, patch, room, answer);
+    return starshackle_store(m.vb, m.flags, m.x, m.sp, m.z, m.z_len, m.p, m.p_len, m.base, memory, m.length, word, patch, room,
+                             answer);
 }
 
 static uint64_t element(uint32_t word, uint64_t e)
@@ -176,7 +184,7 @@ static void word_is(int line, uint32_t word, uint64_t class, uint64_t index, uin
     memset(fields, 0x5A, sizeof fields);
     expect(line, "decoding", starshackle_decode(word, fields), fields, STARSHACKLE_DONE, wanted, 8);
     memcpy(given, wanted, sizeof given);
-    expect5(line, "encoding", starshackle_encode(given, answer), STARSHACKLE_DONE, 0, 0, 0, 0, word);
+    expect_answer(line, "encoding", starshackle_encode(given, answer), STARSHACKLE_DONE, 0, 0, 0, 0, word, UNWRITTEN);
     check(line, memcmp(given, wanted, sizeof given) == 0, "encoding only reads its fields");
 }
 
@@ -276,29 +284,28 @@ static void scatter_machine(const uint64_t *offsets, const uint64_t *bytes)
 static const uint64_t OFFSETS[4] = {0, 1, 1, 5}, BYTES[4] = {0xA1, 0xA2, 0xA3, 0xA4};
 static const uint64_t OFFSETS2[4] = {1, 0, 5, 5}, BYTES2[4] = {0xA3, 0xA1, 0x00, 0xA4};
 
-static void expect_example(void)
+static void expect_example_memory(void)
 {
     expect_memory(0, 0xA1);
     expect_memory(1, 0xA3);
     expect_memory(5, 0xA4);
 }
 
-static void whole_example(const uint64_t *offsets, const uint64_t *bytes)
+static void expect_example(void)
+{
+    expect_example_memory();
+    expect_patch(0, EXAMPLE, sizeof EXAMPLE);
+}
+
+/* `masked_length` is the length of the patch without element 1. */
+static void whole_example(const uint64_t *offsets, const uint64_t *bytes, size_t masked_length)
 {
     size_t e;
     scatter_machine(offsets, bytes);
-    ANSWERS(run(SCATTER), STARSHACKLE_DONE, 0, 0, 4, 4, 0);
+    STORES(store(SCATTER, MOST_PATCH), STARSHACKLE_DONE, 0, 0, 4, 4, sizeof EXAMPLE);
     expect_example();
-    CHECK(untouched());
-
-    scatter_machine(offsets, bytes);
-    ANSWERS(make(SCATTER, MOST_PATCH), STARSHACKLE_DONE, 0, 0, 4, 4, sizeof EXAMPLE);
-    expect_patch(EXAMPLE, sizeof EXAMPLE);
     CHECK(untouched());
     ANSWERS(starshackle_judge(patch, sizeof EXAMPLE, answer), STARSHACKLE_DONE, 0, 0, 2, 3, 0);
-    CHECK(untouched());
-    ANSWERS(apply(patch, sizeof EXAMPLE), STARSHACKLE_DONE, 0, 0, 2, 3, 0);
-    expect_example();
     CHECK(untouched());
 
     for (e = 0; e < 4; e++)
@@ -309,14 +316,32 @@ static void whole_example(const uint64_t *offsets, const uint64_t *bytes)
     m.p[1] = 0x11;
     ANSWERS(element(SCATTER, 1), STARSHACKLE_DONE, 0, 0x1000 + offsets[1], 16 + 4, 1, 4);
     ANSWERS(element(SCATTER, 3), STARSHACKLE_DONE, 1, 0x1000 + offsets[3], 16 + 12, 1, 4);
-    ANSWERS(run(SCATTER), STARSHACKLE_DONE, 0, 0, 3, 3, 0);
+    STORES(store(SCATTER, MOST_PATCH), STARSHACKLE_DONE, 0, 0, 3, 3, masked_length);
 }
 
 static void example(void)
 {
     WORD_IS(SCATTER, 6, 2, 1, 0, 0, 1, 0);
-    whole_example(OFFSETS, BYTES);
-    whole_example(OFFSETS2, BYTES2);
+    whole_example(OFFSETS, BYTES, sizeof EXAMPLE);
+    whole_example(OFFSETS2, BYTES2, sizeof EXAMPLE - 1);
+}
+
+/* The patch is the same whatever the window holds, and applying it there leaves what the store leaves. */
+static void fillings(void)
+{
+    static const uint8_t bytes[] = {0x00, 0xA3, 0xFF};
+    size_t i;
+    for (i = 0; i < sizeof bytes; i++) {
+        scatter_machine(OFFSETS, BYTES);
+        refill(bytes[i]);
+        STORES(store(SCATTER, MOST_PATCH), STARSHACKLE_DONE, 0, 0, 4, 4, sizeof EXAMPLE);
+        expect_example();
+        CHECK(untouched());
+        refill(bytes[i]);
+        ANSWERS(apply(patch, sizeof EXAMPLE), STARSHACKLE_DONE, 0, 0, 2, 3, 0);
+        expect_example_memory();
+        CHECK(untouched());
+    }
 }
 
 /* The patch buffer: too short, exact, longer. */
@@ -324,18 +349,22 @@ static void rooms(void)
 {
     size_t room;
     scatter_machine(OFFSETS, BYTES);
-    for (room = 0; room < sizeof EXAMPLE; room++)
-        REFUSED(make(SCATTER, room), STARSHACKLE_NO_ROOM);
-    CHECK(untouched());
+    for (room = 0; room < sizeof EXAMPLE; room++) {
+        STORE_REFUSED(store(SCATTER, room), STARSHACKLE_NO_ROOM);
+        CHECK(untouched());
+    }
     for (room = sizeof EXAMPLE; room < sizeof EXAMPLE + 3; room++) {
         fill();
-        ANSWERS(make(SCATTER, room), STARSHACKLE_DONE, 0, 0, 4, 4, sizeof EXAMPLE);
-        expect_patch(EXAMPLE, sizeof EXAMPLE);
+        STORES(store(SCATTER, room), STARSHACKLE_DONE, 0, 0, 4, 4, sizeof EXAMPLE);
+        expect_example();
         CHECK(untouched());
     }
 }
 
 /* ---- strided and quadword stores */
+
+/* What stands behind the run of a patch that has one. */
+static const uint8_t ONE_RUN[4] = {0x50, 0x45, 1, 0};
 
 static void strided(void)
 {
@@ -354,11 +383,10 @@ static void strided(void)
     set_z(16, 1, 8, UINT64_C(0x2222222222222222));
     set_z(24, 0, 8, UINT64_C(0x3333333333333333));
     set_z(24, 1, 8, UINT64_C(0x4444444444444444));
-    ANSWERS(make(word, sizeof wanted - 1), STARSHACKLE_NO_ROOM, 0, 0, 0, 0, 0);
-    ANSWERS(make(word, sizeof wanted), STARSHACKLE_DONE, 0, 0, 3, 24, sizeof wanted);
-    expect_patch(wanted, sizeof wanted);
+    STORE_REFUSED(store(word, sizeof wanted - 1), STARSHACKLE_NO_ROOM);
     CHECK(untouched());
-    ANSWERS(run(word), STARSHACKLE_DONE, 0, 0, 3, 24, 0);
+    STORES(store(word, sizeof wanted), STARSHACKLE_DONE, 0, 0, 3, 24, sizeof wanted);
+    expect_patch(0, wanted, sizeof wanted);
     for (i = 0; i < 24; i++)
         expect_memory(i, wanted[12 + i]);
     CHECK(untouched());
@@ -373,12 +401,13 @@ static void strided(void)
         ANSWERS(element(0xA16F6000, i), STARSHACKLE_DONE, i == 3, 0x0FE0 + 8 * i, i / 2 * 8 * 16 + i % 2 * 8, 8, 4);
     set_counter(8, 0x8000); /* nothing is active */
     m.length = 0;
-    ANSWERS(run(word), STARSHACKLE_DONE, 0, 0, 0, 0, 0);
+    STORES(store(word, MOST_PATCH), STARSHACKLE_DONE, 0, 0, 0, 0, 4);
 }
 
 static void quadword(void)
 {
     const uint32_t word = 0xE4232041; /* st1q { z1.q }, p0, [z2.d, x3] */
+    static const uint8_t head[12] = {0x50, 0x52, 0x20, 0x10, 0, 0, 0, 0, 0, 0, 16, 0};
     size_t i;
     WORD_IS(word, 12, 3, 0, 0, 2, 1, 0);
     machine(32, STARSHACKLE_FLAG_SVE2P1, 0x1000, 64);
@@ -392,9 +421,12 @@ static void quadword(void)
         m.z[32 + 16 + i] = (uint8_t)(0xC0 + i);
     ANSWERS(element(word, 0), STARSHACKLE_DONE, 0, 0x9989, 32, 16, 2);
     ANSWERS(element(word, 1), STARSHACKLE_DONE, 1, 0x1020, 48, 16, 2);
-    ANSWERS(run(word), STARSHACKLE_DONE, 0, 0, 1, 16, 0);
+    STORES(store(word, MOST_PATCH), STARSHACKLE_DONE, 0, 0, 1, 16, 12 + 16 + 4);
     for (i = 0; i < 16; i++)
         expect_memory(0x20 + i, (uint8_t)(0xC0 + i));
+    expect_patch(0, head, sizeof head);
+    expect_patch(12, m.z + 32 + 16, 16);
+    expect_patch(12 + 16, ONE_RUN, sizeof ONE_RUN);
     CHECK(untouched());
 }
 
@@ -402,45 +434,47 @@ static void quadword(void)
 static void largest(void)
 {
     const uint32_t word = 0xA120E000;
+    const size_t room = STARSHACKLE_LARGEST_STORE_PATCH;
+    static const uint8_t head[12] = {0x50, 0x52, 0, 0, 0, 0, 0, 0, 0, 0, 0, 4};
     size_t i;
     machine(256, STARSHACKLE_FLAG_SME2 | STARSHACKLE_FLAG_STREAMING, 0, STARSHACKLE_LARGEST_WINDOW);
     set_counter(8, 0x8008); /* all */
     for (i = 0; i < sizeof m.z; i++)
         m.z[i] = (uint8_t)(i / 8);
-    REFUSED(make(word, STARSHACKLE_LARGEST_STORE_PATCH - 1), STARSHACKLE_NO_ROOM);
+    STORE_REFUSED(store(word, room - 1), STARSHACKLE_NO_ROOM);
     CHECK(untouched());
-    ANSWERS(make(word, STARSHACKLE_LARGEST_STORE_PATCH), STARSHACKLE_DONE, 0, 0, 128, 1024, STARSHACKLE_LARGEST_STORE_PATCH);
-    ANSWERS(starshackle_judge(patch, STARSHACKLE_LARGEST_STORE_PATCH, answer), STARSHACKLE_DONE, 0, 0, 1, 1024, 0);
-    for (i = 0; i < 1024; i++)
-        CHECK(patch[12 + i] == m.z[i / 256 * 4 * 256 + i % 256]);
-    ANSWERS(apply(patch, STARSHACKLE_LARGEST_STORE_PATCH), STARSHACKLE_DONE, 0, 0, 1, 1024, 0);
-    CHECK(memcmp(memory, patch + 12, 1024) == 0);
-    memcpy(memory_before, memory_area, sizeof memory_area);
-    memcpy(patch_before, patch_area, sizeof patch_area);
-    ANSWERS(run(word), STARSHACKLE_DONE, 0, 0, 128, 1024, 0);
-    CHECK(untouched()); /* running leaves what applying has left */
+    STORES(store(word, room), STARSHACKLE_DONE, 0, 0, 128, 1024, room);
+    expect_patch(0, head, sizeof head);
+    for (i = 0; i < 1024; i++) {
+        const uint8_t *byte = m.z + i / 256 * 4 * 256 + i % 256;
+        expect_memory(i, *byte);
+        expect_patch(12 + i, byte, 1);
+    }
+    expect_patch(12 + 1024, ONE_RUN, sizeof ONE_RUN);
+    CHECK(untouched());
+    ANSWERS(starshackle_judge(patch, room, answer), STARSHACKLE_DONE, 0, 0, 1, 1024, 0);
+    refill(0xEE);
+    ANSWERS(apply(patch, room), STARSHACKLE_DONE, 0, 0, 1, 1024, 0);
+    memcpy(memory_before + FENCE, patch + 12, 1024);
+    CHECK(untouched());
 }
 
 /* ---- verdicts */
 
-/* Running and making a patch are refused alike. */
-static void both_refused(int line, uint32_t word, uint64_t number, uint64_t e, uint64_t address)
+static void refused(int line, uint32_t word, uint64_t number, uint64_t e, uint64_t address)
 {
-    expect5(line, "running", run(word), number, e, address, 0, 0, 0);
-    expect5(line, "making", make(word, MOST_PATCH), number, e, address, 0, 0, 0);
+    expect_answer(line, "storing", store(word, MOST_PATCH), number, e, address, 0, 0, 0, 0);
     check(line, untouched(), "memory and patch are as they came");
 }
 
-#define BOTH_REFUSED(word, number, e, address) both_refused(__LINE__, word, number, e, address)
-
-static void both_done(int line, uint32_t word, uint64_t elements, uint64_t bytes, uint64_t length)
+static void done(int line, uint32_t word, uint64_t elements, uint64_t bytes, uint64_t length)
 {
-    expect5(line, "running", run(word), STARSHACKLE_DONE, 0, 0, elements, bytes, 0);
-    expect5(line, "making", make(word, MOST_PATCH), STARSHACKLE_DONE, 0, 0, elements, bytes, length);
+    expect_answer(line, "storing", store(word, MOST_PATCH), STARSHACKLE_DONE, 0, 0, elements, bytes, length, 0);
     fill();
 }
 
-#define BOTH_DONE(word, elements, bytes, length) both_done(__LINE__, word, elements, bytes, length)
+#define IS_REFUSED(word, number, e, address) refused(__LINE__, word, number, e, address)
+#define IS_DONE(word, elements, bytes, length) done(__LINE__, word, elements, bytes, length)
 
 static void refusals(void)
 {
@@ -451,100 +485,98 @@ static void refusals(void)
     scatter_machine(OFFSETS, BYTES);
     for (i = 0; i < sizeof lengths / sizeof *lengths; i++) {
         m.vb = lengths[i];
-        BOTH_REFUSED(SCATTER, STARSHACKLE_LENGTH, 0, 0);
+        IS_REFUSED(SCATTER, STARSHACKLE_LENGTH, 0, 0);
         REFUSED(element(SCATTER, 0), STARSHACKLE_LENGTH);
     }
     m.vb = 32; /* a length, but not that of the buffers */
-    BOTH_REFUSED(SCATTER, STARSHACKLE_REGISTERS, 0, 0);
+    IS_REFUSED(SCATTER, STARSHACKLE_REGISTERS, 0, 0);
     m.vb = 16;
     for (i = 0; i < 4; i++) {
         m.z_len = 32 * 16 - (i == 0) + (i == 1);
         m.p_len = 2 * 16 - (i == 2) + (i == 3);
-        BOTH_REFUSED(SCATTER, STARSHACKLE_REGISTERS, 0, 0);
+        IS_REFUSED(SCATTER, STARSHACKLE_REGISTERS, 0, 0);
         REFUSED(element(SCATTER, 0), STARSHACKLE_REGISTERS);
     }
     m.z_len = 32 * 16;
     m.p_len = 2 * 16;
     m.length = STARSHACKLE_LARGEST_WINDOW + 1;
-    BOTH_REFUSED(SCATTER, STARSHACKLE_WINDOW, 0, 0);
+    IS_REFUSED(SCATTER, STARSHACKLE_WINDOW, 0, 0);
     REFUSED(apply(EXAMPLE, sizeof EXAMPLE), STARSHACKLE_WINDOW);
     REFUSED(apply(EXAMPLE, 1), STARSHACKLE_WINDOW); /* before what is said of the patch */
     m.base = UINT64_C(0xFFFFFFFFFFFFFFF0);
     m.length = 17;
-    BOTH_REFUSED(SCATTER, STARSHACKLE_WINDOW, 0, 0);
+    IS_REFUSED(SCATTER, STARSHACKLE_WINDOW, 0, 0);
     REFUSED(apply(EXAMPLE, sizeof EXAMPLE), STARSHACKLE_WINDOW);
-    REFUSED(starshackle_make_patch(16, m.flags, m.x, 0, m.z, m.z_len, m.p, m.p_len, 1, UINT64_MAX, SCATTER, patch, MOST_PATCH, answer),
-            STARSHACKLE_WINDOW);
     m.length = 16;
-    BOTH_REFUSED(SCATTER, STARSHACKLE_FAULT, 0, 0x1000);
+    IS_REFUSED(SCATTER, STARSHACKLE_FAULT, 0, 0x1000);
     m.x[0] = UINT64_C(0xFFFFFFFFFFFFFFFA);
-    BOTH_DONE(SCATTER, 4, 4, sizeof EXAMPLE); /* offset 5 is the last address */
+    IS_DONE(SCATTER, 4, 4, sizeof EXAMPLE); /* offset 5 is the last address */
     m.x[0]++;
-    BOTH_REFUSED(SCATTER, STARSHACKLE_FAULT, 3, 0); /* and here the first */
+    IS_REFUSED(SCATTER, STARSHACKLE_FAULT, 3, 0); /* and here the first */
 
     scatter_machine(OFFSETS, BYTES);
     REFUSED(element(0xE4208000, 0), STARSHACKLE_UNDEFINED);
-    BOTH_REFUSED(0xE4208000, STARSHACKLE_UNDEFINED, 0, 0);
+    IS_REFUSED(0xE4208000, STARSHACKLE_UNDEFINED, 0, 0);
     m.flags = ~UINT64_C(0) ^ STARSHACKLE_FLAG_SVE;
-    BOTH_REFUSED(SCATTER, STARSHACKLE_UNDEFINED, 0, 0);
+    IS_REFUSED(SCATTER, STARSHACKLE_UNDEFINED, 0, 0);
     ANSWERS(element(SCATTER, 0), STARSHACKLE_DONE, 1, 0x1000, 16, 1, 4); /* looks at no flag */
     m.flags = ~UINT64_C(0) ^ STARSHACKLE_FLAG_SME2;
-    BOTH_REFUSED(0xA1206000, STARSHACKLE_UNDEFINED, 0, 0);
-    BOTH_DONE(SCATTER, 4, 4, sizeof EXAMPLE);
+    IS_REFUSED(0xA1206000, STARSHACKLE_UNDEFINED, 0, 0);
+    IS_DONE(SCATTER, 4, 4, sizeof EXAMPLE);
     m.flags = ~UINT64_C(0) ^ STARSHACKLE_FLAG_SVE2P1;
-    BOTH_REFUSED(0xE4202000, STARSHACKLE_UNDEFINED, 0, 0);
+    IS_REFUSED(0xE4202000, STARSHACKLE_UNDEFINED, 0, 0);
     m.flags = STARSHACKLE_FLAG_SVE | streaming;
-    BOTH_REFUSED(SCATTER, STARSHACKLE_ILLEGAL, 0, 0);
+    IS_REFUSED(SCATTER, STARSHACKLE_ILLEGAL, 0, 0);
     m.flags = STARSHACKLE_FLAG_SVE2P1 | streaming;
-    BOTH_REFUSED(0xE4202000, STARSHACKLE_ILLEGAL, 0, 0);
+    IS_REFUSED(0xE4202000, STARSHACKLE_ILLEGAL, 0, 0);
     m.flags = STARSHACKLE_FLAG_SVE | streaming | STARSHACKLE_FLAG_FA64;
-    BOTH_DONE(SCATTER, 4, 4, sizeof EXAMPLE);
+    IS_DONE(SCATTER, 4, 4, sizeof EXAMPLE);
     m.flags = STARSHACKLE_FLAG_SME2 | STARSHACKLE_FLAG_FA64;
-    BOTH_REFUSED(0xA1206000, STARSHACKLE_ILLEGAL, 0, 0);
+    IS_REFUSED(0xA1206000, STARSHACKLE_ILLEGAL, 0, 0);
 
     /* the same store from SP */
     scatter_machine(OFFSETS, BYTES);
     m.sp = 0x0FF8;
     m.base = 0x0FF8;
     m.flags = STARSHACKLE_FLAG_SVE | STARSHACKLE_FLAG_SP_CHECK_NONE_ACTIVE;
-    BOTH_DONE(SCATTER | 31 << 5, 4, 4, sizeof EXAMPLE);
+    IS_DONE(SCATTER | 31 << 5, 4, 4, sizeof EXAMPLE);
     m.flags = STARSHACKLE_FLAG_SVE | STARSHACKLE_FLAG_SP_CHECK;
-    BOTH_REFUSED(SCATTER | 31 << 5, STARSHACKLE_STACK, 0, 0);
+    IS_REFUSED(SCATTER | 31 << 5, STARSHACKLE_STACK, 0, 0);
     memset(m.p, 0, sizeof m.p);
-    BOTH_DONE(SCATTER | 31 << 5, 0, 0, 4);
+    IS_DONE(SCATTER | 31 << 5, 0, 0, 4);
     m.flags |= STARSHACKLE_FLAG_SP_CHECK_NONE_ACTIVE;
-    BOTH_REFUSED(SCATTER | 31 << 5, STARSHACKLE_STACK, 0, 0);
-    BOTH_DONE(SCATTER, 0, 0, 4);
+    IS_REFUSED(SCATTER | 31 << 5, STARSHACKLE_STACK, 0, 0);
+    IS_DONE(SCATTER, 0, 0, 4);
     m.sp = 0x1000;
-    BOTH_DONE(SCATTER | 31 << 5, 0, 0, 4);
+    IS_DONE(SCATTER | 31 << 5, 0, 0, 4);
 
     /* the lowest active element outside the window; nothing is written, though others are inside */
     scatter_machine(OFFSETS, BYTES);
     m.length = 5;
-    BOTH_REFUSED(SCATTER, STARSHACKLE_FAULT, 3, 0x1005);
+    IS_REFUSED(SCATTER, STARSHACKLE_FAULT, 3, 0x1005);
     m.base = 0x1001;
-    BOTH_REFUSED(SCATTER, STARSHACKLE_FAULT, 0, 0x1000);
+    IS_REFUSED(SCATTER, STARSHACKLE_FAULT, 0, 0x1000);
     m.length = 0;
-    BOTH_REFUSED(SCATTER, STARSHACKLE_FAULT, 0, 0x1000);
-    ANSWERS(make(SCATTER, 0), STARSHACKLE_FAULT, 0, 0x1000, 0, 0, 0); /* before what is said of the room */
+    IS_REFUSED(SCATTER, STARSHACKLE_FAULT, 0, 0x1000);
+    STORES(store(SCATTER, 0), STARSHACKLE_FAULT, 0, 0x1000, 0, 0, 0); /* before what is said of the room */
     CHECK(untouched());
 }
 
 /* ---- patches */
 
 /* The example with one byte changed. */
-static const uint8_t *changed(size_t place, uint8_t byte)
+static const uint8_t *changed(size_t index, uint8_t byte)
 {
     static uint8_t bytes[sizeof EXAMPLE];
     memcpy(bytes, EXAMPLE, sizeof EXAMPLE);
-    bytes[place] = byte;
+    bytes[index] = byte;
     return bytes;
 }
 
 static void bad_patch(int line, const uint8_t *bytes, size_t length, uint64_t runs, uint64_t offset)
 {
-    expect5(line, "judging", starshackle_judge(bytes, length, answer), STARSHACKLE_BAD_PATCH, runs, offset, 0, 0, 0);
-    expect5(line, "applying", apply(bytes, length), STARSHACKLE_BAD_PATCH, 0, 0, 0, 0, 0);
+    expect_answer(line, "judging", starshackle_judge(bytes, length, answer), STARSHACKLE_BAD_PATCH, runs, offset, 0, 0, 0, UNWRITTEN);
+    expect_answer(line, "applying", apply(bytes, length), STARSHACKLE_BAD_PATCH, 0, 0, 0, 0, 0, UNWRITTEN);
     check(line, untouched(), "memory is as it came");
 }
 
@@ -601,7 +633,7 @@ static void patches(void)
         }
     }
     patch[28 * 64] = 0x50, patch[28 * 64 + 1] = 0x45, patch[28 * 64 + 2] = 64;
-    expect_patch(patch, MOST_PATCH);
+    expect_patch(0, patch, MOST_PATCH);
     ANSWERS(starshackle_judge(patch, MOST_PATCH, answer), STARSHACKLE_DONE, 0, 0, 64, 1024, 0);
     ANSWERS(apply(patch, MOST_PATCH), STARSHACKLE_DONE, 0, 0, 64, 1024, 0);
     CHECK(untouched());
@@ -613,34 +645,34 @@ static void nulls(void)
 {
     static const uint8_t EMPTY[4] = {0x50, 0x45, 0, 0};
     const uint64_t sve = STARSHACKLE_FLAG_SVE;
-    int active;
 
     scatter_machine(OFFSETS, BYTES);
-    REFUSED(starshackle_run(16, sve, m.x, 0, NULL, 0, m.p, 32, 0x1000, memory, 8, SCATTER, answer), STARSHACKLE_REGISTERS);
-    REFUSED(starshackle_run(16, sve, m.x, 0, m.z, 512, NULL, 0, 0x1000, memory, 8, SCATTER, answer), STARSHACKLE_REGISTERS);
-    REFUSED(starshackle_run(16, sve, m.x, 0, NULL, 0, NULL, 0, 0x1000, NULL, 0, SCATTER, answer), STARSHACKLE_REGISTERS);
-    REFUSED(starshackle_run(0, sve, m.x, 0, NULL, 0, NULL, 0, 0x1000, NULL, 0, SCATTER, answer), STARSHACKLE_LENGTH);
+    STORE_REFUSED(starshackle_store(16, sve, m.x, 0, NULL, 0, m.p, 32, 0x1000, memory, 8, SCATTER, patch, 31, answer),
+                  STARSHACKLE_REGISTERS);
+    STORE_REFUSED(starshackle_store(16, sve, m.x, 0, m.z, 512, NULL, 0, 0x1000, memory, 8, SCATTER, patch, 31, answer),
+                  STARSHACKLE_REGISTERS);
+    STORE_REFUSED(starshackle_store(16, sve, m.x, 0, NULL, 0, NULL, 0, 0x1000, NULL, 0, SCATTER, NULL, 0, answer),
+                  STARSHACKLE_REGISTERS);
+    STORE_REFUSED(starshackle_store(0, sve, m.x, 0, NULL, 0, NULL, 0, 0x1000, NULL, 0, SCATTER, NULL, 0, answer), STARSHACKLE_LENGTH);
     REFUSED(starshackle_element(16, m.x, 0, NULL, 0, m.p, 32, SCATTER, 0, answer), STARSHACKLE_REGISTERS);
     REFUSED(starshackle_element(16, m.x, 0, m.z, 512, NULL, 0, SCATTER, 0, answer), STARSHACKLE_REGISTERS);
     REFUSED(starshackle_element(0, m.x, 0, NULL, 0, NULL, 0, SCATTER, 0, answer), STARSHACKLE_LENGTH);
-    REFUSED(starshackle_make_patch(16, sve, m.x, 0, NULL, 0, m.p, 32, 0x1000, 8, SCATTER, patch, 31, answer), STARSHACKLE_REGISTERS);
-    REFUSED(starshackle_make_patch(16, sve, m.x, 0, m.z, 512, NULL, 0, 0x1000, 8, SCATTER, patch, 31, answer), STARSHACKLE_REGISTERS);
-    REFUSED(starshackle_make_patch(0, sve, m.x, 0, NULL, 0, NULL, 0, 0x1000, 8, SCATTER, NULL, 0, answer), STARSHACKLE_LENGTH);
 
-    /* with elements active, and with none */
-    for (active = 1; active >= 0; active--) {
-        memset(m.p, active ? 0xFF : 0, sizeof m.p);
-        REFUSED(starshackle_make_patch(16, sve, m.x, 0, m.z, 512, m.p, 32, 0x1000, 8, SCATTER, NULL, 0, answer), STARSHACKLE_NO_ROOM);
-        if (active)
-            ANSWERS(starshackle_run(16, sve, m.x, 0, m.z, 512, m.p, 32, 0x1000, NULL, 0, SCATTER, answer), STARSHACKLE_FAULT, 0,
-                    0x1000, 0, 0, 0);
-        else
-            ANSWERS(starshackle_run(16, sve, m.x, 0, m.z, 512, m.p, 32, 0x1000, NULL, 0, SCATTER, answer), STARSHACKLE_DONE, 0, 0, 0,
-                    0, 0);
-    }
-    ANSWERS(starshackle_make_patch(16, sve, m.x, 0, m.z, 512, m.p, 32, 0x1000, 0, SCATTER, patch, 4, answer), STARSHACKLE_DONE, 0, 0,
-            0, 0, 4);
-    expect_patch(EMPTY, sizeof EMPTY);
+    /* no window and no buffer, with elements active */
+    STORE_REFUSED(starshackle_store(16, sve, m.x, 0, m.z, 512, m.p, 32, 0x1000, memory, 8, SCATTER, NULL, 0, answer),
+                  STARSHACKLE_NO_ROOM);
+    STORES(starshackle_store(16, sve, m.x, 0, m.z, 512, m.p, 32, 0x1000, NULL, 0, SCATTER, patch, 31, answer), STARSHACKLE_FAULT, 0,
+           0x1000, 0, 0, 0);
+    STORES(starshackle_store(16, sve, m.x, 0, m.z, 512, m.p, 32, 0x1000, NULL, 0, SCATTER, NULL, 0, answer), STARSHACKLE_FAULT, 0,
+           0x1000, 0, 0, 0);
+    /* and with none */
+    memset(m.p, 0, sizeof m.p);
+    STORE_REFUSED(starshackle_store(16, sve, m.x, 0, m.z, 512, m.p, 32, 0x1000, NULL, 0, SCATTER, NULL, 0, answer),
+                  STARSHACKLE_NO_ROOM);
+    CHECK(untouched());
+    STORES(starshackle_store(16, sve, m.x, 0, m.z, 512, m.p, 32, 0x1000, NULL, 0, SCATTER, patch, 4, answer), STARSHACKLE_DONE, 0, 0,
+           0, 0, 4);
+    expect_patch(0, EMPTY, sizeof EMPTY);
     CHECK(untouched());
 
     ANSWERS(starshackle_judge(NULL, 0, answer), STARSHACKLE_BAD_PATCH, 0, 0, 0, 0, 0);
@@ -656,6 +688,7 @@ int main(void)
     memset(answer, 0x5A, sizeof answer);
     words();
     example();
+    fillings();
     rooms();
     strided();
     quadword();

@@ -10,7 +10,7 @@ import unittest
 
 import starshackle
 from starshackle import (LARGEST_PATCH, LARGEST_STORE_PATCH, LARGEST_WINDOW, LENGTHS, Applied, Decoded, Element, Encoded, Extension,
-                         Flags, Judged, Machine, Made, Ran, Store, Verdict, apply, decode, element, encode, judge, make_patch, run)
+                         Flags, Judged, Machine, Store, Stored, Verdict, apply, decode, element, encode, judge, store)
 
 SCATTER = 0xE4428001  # st1b { z1.s }, p0, [x0, z2.s, uxtw]
 STRIDED = 0xA1606000  # st1d { z0.d, z8.d }, pn8, [x0]
@@ -67,18 +67,15 @@ class Example(unittest.TestCase):
 
     MACHINES = [scatter(), scatter((1, 0, 5, 5), (0xA3, 0xA1, 0x00, 0xA4))]
 
-    def test_run(self):
-        for machine in self.MACHINES:
-            memory = bytearray(b"\x77" * 8)
-            self.assertEqual(run(machine, 0x1000, memory, SCATTER), Ran(Verdict.DONE, 0, 0, 4, 4))
-            self.assertEqual(memory, b"\xa1\xa3\x77\x77\x77\xa4\x77\x77")
-
-    def test_make_patch(self):
+    def test_store(self):
         for machine in self.MACHINES:
             for room in [31, 32, LARGEST_STORE_PATCH]:
-                patch = bytearray(b"\x77" * room)
-                self.assertEqual(make_patch(machine, 0x1000, 8, SCATTER, patch), Made(Verdict.DONE, 0, 0, 4, 4, 31))
+                memory, patch = bytearray(b"\x77" * 8), bytearray(b"\x77" * room)
+                self.assertEqual(store(machine, 0x1000, memory, SCATTER, patch), Stored(Verdict.DONE, 0, 0, 4, 4, 31))
+                self.assertEqual(memory, b"\xa1\xa3\x77\x77\x77\xa4\x77\x77")
                 self.assertEqual(patch, EXAMPLE + b"\x77" * (room - 31))
+                memory.append(0)  # nothing holds on to them
+                patch.append(0)
 
     def test_patch(self):
         self.assertEqual(judge(EXAMPLE), Judged(Verdict.DONE, 0, 0, 2, 3))
@@ -99,13 +96,12 @@ class Example(unittest.TestCase):
 class Refusals(unittest.TestCase):
     """Every verdict, with its detail; what is lent stays as it came."""
 
-    def check(self, machine, word, verdict, detail=(0, 0), base=0x1000, length=8):
-        memory = bytearray(random.Random(length).randbytes(length))
-        patch = bytearray(b"\x77" * LARGEST_STORE_PATCH)
+    def check(self, machine, word, verdict, detail=(0, 0), base=0x1000, length=8, room=LARGEST_STORE_PATCH):
+        memory, patch = bytearray(random.Random(length).randbytes(length)), bytearray(b"\x77" * room)
         before = bytes(memory)
-        self.assertEqual(run(machine, base, memory, word), Ran(verdict, *detail, 0, 0))
-        self.assertEqual(make_patch(machine, base, length, word, patch), Made(verdict, *detail, 0, 0, 0))
-        self.assertEqual((memory, patch), (before, b"\x77" * LARGEST_STORE_PATCH))
+        self.assertEqual(store(machine, base, memory, word, patch), Stored(verdict, *detail, 0, 0, 0))
+        self.assertEqual(memory, before)
+        self.assertEqual(patch, b"\x77" * room)
 
     def test_length(self):
         for vb in [0, 15, 17, 512, 2**64 - 1]:
@@ -121,7 +117,6 @@ class Refusals(unittest.TestCase):
         for base, length in [(0, LARGEST_WINDOW + 1), (2**64 - 16, 17), (2**64 - 1, 2)]:
             self.check(scatter(), SCATTER, Verdict.WINDOW, base=base, length=length)
             self.assertEqual(apply(base, bytearray(length), EXAMPLE), Applied(Verdict.WINDOW, 0, 0, 0, 0))
-        self.assertEqual(make_patch(scatter(), 1, 2**64 - 1, SCATTER, bytearray()).verdict, Verdict.WINDOW)
 
     def test_undefined(self):
         every = (1 << 64) - 1
@@ -140,7 +135,7 @@ class Refusals(unittest.TestCase):
         machine.sp, machine.flags = 0x1001, Flags.SVE | Flags.SP_CHECK
         self.check(machine, word, Verdict.STACK)
         machine.p = bytes(32)
-        self.assertEqual(run(machine, 0, bytearray(), word), Ran(Verdict.DONE, 0, 0, 0, 0))
+        self.assertEqual(store(machine, 0, bytearray(), word, bytearray(4)), Stored(Verdict.DONE, 0, 0, 0, 0, 4))
         machine.flags |= Flags.SP_CHECK_NONE_ACTIVE
         self.check(machine, word, Verdict.STACK)
 
@@ -148,12 +143,11 @@ class Refusals(unittest.TestCase):
         self.check(scatter(), SCATTER, Verdict.FAULT, (3, 0x1005), length=5)
         self.check(scatter(), SCATTER, Verdict.FAULT, (0, 0x1000), base=0x1001)
         self.check(scatter(), SCATTER, Verdict.FAULT, (0, 0x1000), length=0)
+        self.check(scatter(), SCATTER, Verdict.FAULT, (3, 0x1005), length=5, room=0)  # before what is said of the room
 
     def test_no_room(self):
         for room in [0, 1, 30]:
-            patch = bytearray(b"\x77" * room)
-            self.assertEqual(make_patch(scatter(), 0x1000, 8, SCATTER, patch), Made(Verdict.NO_ROOM, 0, 0, 0, 0, 0))
-            self.assertEqual(patch, b"\x77" * room)
+            self.check(scatter(), SCATTER, Verdict.NO_ROOM, room=room)
 
     def test_bad_patch(self):
         for bad, acceptable, offset in [(b"", 0, 0), (EXAMPLE[:20], 1, 14), (EXAMPLE[:-1], 2, 27), (EXAMPLE + b"\0", 2, 27)]:
@@ -177,8 +171,7 @@ class Arguments(unittest.TestCase):
             call(*arguments)
 
     def test_words(self):
-        for call in [decode, lambda word: run(scatter(), 0, bytearray(), word), lambda word: element(scatter(), word, 0),
-                     lambda word: make_patch(scatter(), 0, 0, word, bytearray())]:
+        for call in [decode, lambda word: store(scatter(), 0, bytearray(), word, bytearray()), lambda word: element(scatter(), word, 0)]:
             for word in [-1, 2**32, 2**64]:
                 self.refused(ValueError, "word", call, word)
             for word in [None, "E4428001", 1.0, b"\1\2\3\4"]:
@@ -186,17 +179,14 @@ class Arguments(unittest.TestCase):
 
     def test_numbers(self):
         for bad, error in [(-1, ValueError), (2**64, ValueError), (1.5, TypeError), (None, TypeError), ("1", TypeError)]:
-            self.refused(error, "base", run, scatter(), bad, bytearray(8), SCATTER)
+            self.refused(error, "base", store, scatter(), bad, bytearray(8), SCATTER, bytearray(31))
             self.refused(error, "base", apply, bad, bytearray(8), EXAMPLE)
-            self.refused(error, "base", make_patch, scatter(), bad, 8, SCATTER, bytearray(31))
-            self.refused(error, "length", make_patch, scatter(), 0, bad, SCATTER, bytearray(31))
             self.refused(error, "number", element, scatter(), SCATTER, bad)
             for name in ["vb", "flags", "sp"]:
                 machine = scatter()
                 setattr(machine, name, bad)
-                self.refused(error, name, run, machine, 0, bytearray(8), SCATTER)
+                self.refused(error, name, store, machine, 0, bytearray(8), SCATTER, bytearray(31))
                 self.refused(error, name, element, machine, SCATTER, 0)
-                self.refused(error, name, make_patch, machine, 0, 8, SCATTER, bytearray(31))
             for name in ["class_", "index", "extension", "predicate", "base", "register"]:
                 self.refused(error, name, encode, Store(**{"class_": 6, name: bad}))
         for multiple in [2**63, -2**63 - 1]:
@@ -205,35 +195,40 @@ class Arguments(unittest.TestCase):
     def test_x(self):
         for bad, error in [([0] * 30, ValueError), ([0] * 32, ValueError), ([0] * 30 + [2**64], ValueError), ([0] * 30 + [-1], ValueError),
                            ([0] * 30 + [None], TypeError), (bytes(31), TypeError), ("0" * 31, TypeError), (0, TypeError)]:
-            self.refused(error, "x", run, Machine(x=bad), 0, bytearray(8), SCATTER)
+            self.refused(error, "x", store, Machine(x=bad), 0, bytearray(8), SCATTER, bytearray(31))
 
     def test_buffers(self):
-        memory = bytearray(b"\x77" * 8)
+        memory, patch = bytearray(b"\x77" * 8), bytearray(b"\x77" * 31)
         for bad in [None, [0] * 8, "12345678", 8, memoryview(bytes(8))]:
-            self.refused(TypeError, "memory", run, scatter(), 0x1000, bad, SCATTER)
             self.refused(TypeError, "memory", apply, 0x1000, bad, EXAMPLE)
             self.refused(TypeError, "patch", apply, 0x1000, memory, bad)
             self.refused(TypeError, "patch", judge, bad)
-            self.refused(TypeError, "patch", make_patch, scatter(), 0, 8, SCATTER, bad)
             for name in ["z", "p"]:
                 machine = scatter()
                 setattr(machine, name, bad)
-                self.refused(TypeError, name, run, machine, 0x1000, memory, SCATTER)
-        self.refused(TypeError, "memory", run, scatter(), 0x1000, bytes(8), SCATTER)
+                self.refused(TypeError, name, store, machine, 0x1000, memory, SCATTER, patch)
         self.refused(TypeError, "memory", apply, 0x1000, bytes(8), EXAMPLE)
-        self.refused(TypeError, "patch", make_patch, scatter(), 0x1000, 8, SCATTER, bytes(31))
-        self.assertEqual(memory, b"\x77" * 8)
+        common = memoryview(bytearray(40))  # parts of one buffer could overlap
+        for bad in [None, [0] * 8, "12345678", 8, bytes(31), common[4:35]]:
+            self.refused(TypeError, "memory", store, scatter(), 0x1000, bad, SCATTER, patch)
+            self.refused(TypeError, "patch", store, scatter(), 0x1000, memory, SCATTER, bad)
+        self.assertEqual((memory, patch, common), (b"\x77" * 8, b"\x77" * 31, bytes(40)))
 
     def test_shared_buffers(self):
-        machine, patch = scatter(), bytearray(EXAMPLE)
-        self.refused(ValueError, "memory and z", run, machine, 0x1000, machine.z, SCATTER)
-        self.refused(ValueError, "memory and p", run, machine, 0x1000, machine.p, SCATTER)
-        self.refused(ValueError, "patch and z", make_patch, machine, 0x1000, 8, SCATTER, machine.z)
-        self.refused(ValueError, "memory and patch", apply, 0x1000, patch, patch)
-        self.assertEqual((machine, patch), (scatter(), EXAMPLE))
+        machine, memory, patch = scatter(), bytearray(8), bytearray(EXAMPLE)
+        for name in ["z", "p"]:
+            shared = getattr(machine, name)
+            self.refused(ValueError, f"memory and {name}", store, machine, 0x1000, shared, SCATTER, patch)
+            self.refused(ValueError, f"patch and {name}", store, machine, 0x1000, memory, SCATTER, shared)
+        for one in [patch, bytearray()]:
+            self.refused(ValueError, "memory and patch", store, machine, 0x1000, one, SCATTER, one)
+            self.refused(ValueError, "memory and patch", apply, 0x1000, one, one)
+        self.assertEqual((machine, memory, patch), (scatter(), bytes(8), EXAMPLE))
+        machine.p = machine.z = bytearray(b"\xff" * 512)  # what is only read may be shared
+        self.assertIs(store(machine, 0x1000, memory, SCATTER, patch).verdict, Verdict.REGISTERS)
 
     def test_classes(self):
-        self.refused(TypeError, "machine", run, None, 0, bytearray(8), SCATTER)
+        self.refused(TypeError, "machine", store, None, 0, bytearray(8), SCATTER, bytearray(31))
         self.refused(TypeError, "machine", element, {}, SCATTER, 0)
         self.refused(TypeError, "store", encode, (6, 0, 0, 0, 0, 0, 0))
 
@@ -301,13 +296,13 @@ class Random(unittest.TestCase):
     def damaged(self, string):
         chosen, string = self.random, bytearray(string)
         for _ in range(chosen.choice([0, 0, 1, 1, 2])):
-            kind, place = chosen.randrange(4), chosen.randrange(len(string)) if string else 0
+            kind, index = chosen.randrange(4), chosen.randrange(len(string)) if string else 0
             if kind == 0 and string:
-                string[place] = chosen.randrange(256)
+                string[index] = chosen.randrange(256)
             elif kind == 1:
-                del string[place:]
+                del string[index:]
             elif kind == 2:
-                string.insert(place, chosen.randrange(256))
+                string.insert(index, chosen.randrange(256))
             else:
                 string += chosen.randbytes(chosen.randrange(1, 5))
         return bytes(string)
@@ -361,17 +356,31 @@ class Random(unittest.TestCase):
         machine.sp = (base & ~15 if chosen.random() < 0.5 else base + 1) % 2**64
         return machine
 
-    def store(self):
+    def word(self):
         """A word with Z0 to Z2 as offsets."""
         chosen = self.random
         word = chosen.choice(BASES)
-        store = decode(word).store
+        class_ = decode(word).store.class_
         word |= chosen.randrange(8) << 10 | chosen.choice([0, 3, 30, 30, 31]) << 5 | chosen.randrange(4)
-        if store.class_ == 12:
+        if class_ == 12:
             return 0xE4202000 | chosen.choice([31, 31, 3]) << 16 | word & 0x1C00 | word & 3
-        if store.class_ in (10, 11):
+        if class_ in (10, 11):
             return word | chosen.choice([0, 0, 1, 15, 8]) << 16
-        return word | chosen.choice([1, 1, 2, 3, 31] if store.class_ > 7 else [1, 2]) << 16
+        return word | chosen.choice([1, 1, 2, 3, 31] if class_ > 7 else [1, 2]) << 16
+
+    def other_filling(self, machine, base, length, word, stored, writes):
+        """A done store over another filling of its window, in buffers one byte too short and just long enough."""
+        filling, string = self.random.randbytes(length), encoding(writes)
+        memory, patch = bytearray(filling), bytearray(len(string) - 1)
+        self.assertEqual(store(machine, base, memory, word, patch), Stored(Verdict.NO_ROOM, 0, 0, 0, 0, 0))
+        self.assertEqual(memory, filling)
+        self.assertEqual(patch, bytes(len(string) - 1))
+        patch.append(0)
+        self.assertEqual(store(machine, base, memory, word, patch), stored)
+        self.assertEqual(patch, string)
+        applied = bytearray(filling)
+        self.assertEqual(apply(base, applied, string), Applied(Verdict.DONE, 0, 0, len(runs_of(writes)), len(writes)))
+        self.assertEqual(applied, memory)
 
     def test_stores(self):
         counts = dict.fromkeys(list(Verdict)[:9], 0)
@@ -379,37 +388,33 @@ class Random(unittest.TestCase):
         for _ in range(2000):
             length = self.random.choice([0, 64, 3000, 3000, LARGEST_WINDOW])
             base = self.random.choice([0x10000, 0x10000, 2**64 - max(length, 1)])
-            machine, word = self.machine(base, length), self.store()
+            machine, word = self.machine(base, length), self.word()
             memory, patch = bytearray(self.random.randbytes(length)), bytearray(b"\x77" * LARGEST_PATCH)
             before, count = bytes(memory), element(machine, word, 0).elements
             active = [(e, one) for e in range(count) for one in [element(machine, word, e)] if one.active]
             writes, moved = {}, 0
             for _, one in active:
                 for k in range(one.bytes):
-                    writes[one.address + k] = machine.z[one.place + k]
+                    writes[one.address + k] = machine.z[one.index + k]
                     moved += 1
-            ran = run(machine, base, memory, word)
-            made = make_patch(machine, base, length, word, patch)
-            counts[ran.verdict] += 1
-            self.assertEqual((made.verdict, made.element, made.address), (ran.verdict, ran.element, ran.address))
-            if ran.done:
+            stored = store(machine, base, memory, word, patch)
+            counts[stored.verdict] += 1
+            if stored.done:
                 classes[decode(word).store.class_] += bool(active)
                 string = encoding(writes)
-                self.assertEqual(ran, Ran(Verdict.DONE, 0, 0, len(active), moved))
-                self.assertEqual(made, Made(Verdict.DONE, 0, 0, len(active), moved, len(string)))
+                self.assertEqual(stored, Stored(Verdict.DONE, 0, 0, len(active), moved, len(string)))
                 self.assertEqual(memory, laid(writes, base, before))
                 self.assertEqual(patch, string + b"\x77" * (LARGEST_PATCH - len(string)))
-                again = bytearray(before)
-                self.assertEqual(apply(base, again, string), Applied(Verdict.DONE, 0, 0, len(runs_of(writes)), len(writes)))
-                self.assertEqual(again, memory)
-                self.assertEqual(make_patch(machine, base, length, word, bytearray(len(string) - 1)).verdict, Verdict.NO_ROOM)
+                self.other_filling(machine, base, length, word, stored, writes)
                 continue
-            self.assertEqual((memory, patch), (before, b"\x77" * LARGEST_PATCH))
-            if ran.verdict is Verdict.FAULT:
+            self.assertEqual(memory, before)
+            self.assertEqual(patch, b"\x77" * LARGEST_PATCH)
+            self.assertEqual((stored.elements, stored.bytes, stored.length), (0, 0, 0))
+            if stored.verdict is Verdict.FAULT:
                 outside = ((e, one.address) for e, one in active if not base <= one.address <= base + length - one.bytes)
-                self.assertEqual(next(outside), (ran.element, ran.address))
+                self.assertEqual(next(outside), (stored.element, stored.address))
             else:
-                self.assertEqual((ran.element, ran.address), (0, 0))
+                self.assertEqual((stored.element, stored.address), (0, 0))
         for verdict in [Verdict.DONE, Verdict.ILLEGAL, Verdict.STACK, Verdict.FAULT]:
             self.assertGreaterEqual(counts[verdict], 20, counts)
         self.assertTrue(all(count >= 5 for count in classes.values()), classes)
@@ -442,7 +447,7 @@ class Declarations(unittest.TestCase):
         for function, listed in re.findall(r'extern "C" fn (\w+)\(([^)]*)\) -> u64', text):
             functions[function] = [part.strip().split(": ", 1) for part in listed.split(",") if part.strip()]
         self.assertEqual(text.count('extern "C"'), len(functions))
-        self.assertEqual(len(functions), 7)
+        self.assertEqual(len(functions), 6)
         return functions
 
     def test_declarations(self):
@@ -458,7 +463,7 @@ class Declarations(unittest.TestCase):
 
     def rust(self, name, kind):
         """A parameter of the source as the Rust crate declares it."""
-        kind = kind.replace("[u64; 8]", "Fields").replace("[u64; 5]", "Answer")
+        kind = kind.replace("[u64; 8]", "Fields").replace("[u64; 5]", "Answer").replace("[u64; 6]", "StoreAnswer")
         if not kind.startswith("&"):
             return f"{name}: {kind}"
         pointer = "*mut" if kind.startswith("&mut ") else "*const"

@@ -1,7 +1,8 @@
 /*
- * Measures an executed ST1D (class 4: st1d { z3.d }, p0, [x1, z2.d]) on the input of the benchmark's case 'run class 4': elements 24 bytes
- * apart in a window of 4,096 bytes, in an order that doesn't ascend. Prints the vector length in bytes, and nanoseconds a store with all
- * lanes and with every second lane active: the medians of loops with the store, less that of the same loop without it.
+ * Measures an executed ST1D (class 4: st1d { z3.d }, p0, [x1, z2.d]) on the input of the benchmark's cases 'store class 4, .., unsorted':
+ * elements 24 bytes apart in a window of 4,096 bytes, in an order that doesn't ascend. Prints the vector length in bytes, and
+ * nanoseconds a store with all lanes and with every second lane active: the medians of loops with the store, less that of the same
+ * loop without it.
  */
 #include <stdint.h>
 #include <stdio.h>

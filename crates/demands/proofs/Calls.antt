@@ -1,185 +1,172 @@
 -- Demand 3's sentences, from the outcomes of the calls. Assumes nothing.
 use mathlib.Core.Path.{_≡_, refl, sym, ap, _∙_, subst}
-use mathlib.Core.Bool.{Bool, true, false, cond}
+use mathlib.Core.Bool.{Bool, true, false}
 use mathlib.Core.List.{List}
 use mathlib.Core.Logic.{_↔_, _⊎_, ⊎-elim}
-use Prim.Native.Nat.{ℕ, _≤_}
+use Prim.Native.Nat.{ℕ, _*_, _≤_}
 use native.Mathlib.Omega.{arith}
-use lib.Dec.{ltb}
 use lib.ListN.{length, take, drop, length-append}
-use Rattle.writes.specs.LittleEndian.{Bytes}
-use Rattle.writes.proofs.Order.{absurdly}
+use Rattle.encoding.specs.Decoding.{decodeOf}
+use Rattle.window.specs.LittleEndian.{Bytes}
+use Rattle.window.proofs.Order.{absurdly}
 use Rattle.writes.proofs.Statements.{encoding-length}
 use Rattle.elements.specs.Machine.{Machine}
-use Rattle.checks.specs.Verdicts.{verdictOf, number}
-use Rattle.checks.specs.declared.Flags.{Flags}
-use Rattle.checks.specs.declared.Verdict.{Verdict}
-use Rattle.checks.specs.declared.Verdict.the-variants.{Done, Length, Registers, Window, Undefined, Illegal, Stack, Fault}
-use Rattle.running.specs.Running.{Ran}
-use Rattle.making.specs.Making.{effectOf, patchOf, makingOf, makingNumber, Made}
-use Rattle.making.specs.declared.Making.{Making}
-use Rattle.making.specs.declared.Making.the-variants as M
+use Rattle.verdicts.specs.Verdicts.{elementsFor, sizeFor, patchOf, number}
+use Rattle.verdicts.specs.declared.Flags.{Flags}
+use Rattle.verdicts.specs.declared.Verdict.{Verdict}
+use Rattle.verdicts.specs.declared.Verdict.the-variants.{Done, Refused}
+use Rattle.storing.specs.Storing.{bufferAfter, Stored}
+use Rattle.patch.specs.Answers.{appliedNumber}
 use Rattle.patch.specs.Applying.{AppliedTo}
-use Rattle.demands.specs.Demand3.{NoneDue, HandsOut}
-use Rattle.demands.specs.Calls.{AppliedIf, lengthMade, Replayed, Compared}
-use Rattle.demands.proofs.Making.{made-length}
+use Rattle.patch.specs.declared.Applied.{Applied}
+use Rattle.demands.specs.Demand3.{NoneDue, effectFor, patchFor, HasRoom, HandsOut}
+use Rattle.demands.specs.Calls.{AppliedIf, ThenApplied, lengthOf, Replayed, Compared}
 use Rattle.demands.proofs.Demand3.{demand3}
+use Rattle.demands.proofs.Storing.{is-done}
 
--- a making that is refused has a number other than 0
-refused-number : (v w : Verdict) (s : List ℕ) (room : ℕ) → M.Refused v ≡ makingOf w s room → number v ≡ 0 → ⊥
-refused-number v (Done n b) s room e q = go (ltb room (length s)) e
-  where
-    go : (t : Bool) → M.Refused v ≡ cond t M.NoRoom (M.Done n b (length s)) → ⊥
-    go true e = absurdly cc
-    go false e = absurdly cc
-refused-number v Length s room e q = let z : v ≡ Length = cc in absurd (omega (arith, q, ap number z))
-refused-number v Registers s room e q = let z : v ≡ Registers = cc in absurd (omega (arith, q, ap number z))
-refused-number v Window s room e q = let z : v ≡ Window = cc in absurd (omega (arith, q, ap number z))
-refused-number v Undefined s room e q = let z : v ≡ Undefined = cc in absurd (omega (arith, q, ap number z))
-refused-number v Illegal s room e q = let z : v ≡ Illegal = cc in absurd (omega (arith, q, ap number z))
-refused-number v Stack s room e q = let z : v ≡ Stack = cc in absurd (omega (arith, q, ap number z))
-refused-number v (Fault x a) s room e q = let z : v ≡ Fault x a = cc in absurd (omega (arith, q, ap number z))
+-- ---- one call
 
--- ---- one making
+-- a length other than 0 is a done store's
+done-by : (v : Verdict) → (lengthOf v ≡ 0 → ⊥) → number v ≡ 0
+done-by (Done n b k) h = refl
+done-by (Refused x) h = absurd (h refl)
 
--- a patch has at least four bytes
-some-bytes : (m : Machine) (word : ℕ) → 4 ≤ length (patchOf m word)
-unfolding patchOf
-some-bytes m word = omega (arith, encoding-length (effectOf m word))
+module _ (f : Flags) (m : Machine) (W : ℕ) (mem : List ℕ) (word : ℕ) (buffer : List ℕ) (v : Verdict) (mem′ buffer′ : List ℕ)
+    (c : Stored f m W mem word buffer v mem′ buffer′) where
+  module _ (e : number v ≡ 0) where
+    length-is : lengthOf v ≡ length (patchFor m word)
+    length-is = ap lengthOf (is-done f m W mem word buffer v mem′ buffer′ c e .answer)
 
-module _ (f : Flags) (m : Machine) (W L : ℕ) (buffer : List ℕ) (word : ℕ) (buffer′ : List ℕ) where
-  -- a patch that was made has some bytes, and they stand in the buffer
-  pub made-some : (r : Making) → Made f m W L buffer word r buffer′ → makingNumber r ≡ 0
-      → (1 ≤ lengthMade r) × (lengthMade r ≤ length buffer′)
-  made-some (M.Done n b k) d q =
-      let l = made-length f m W L buffer word n b k buffer′ d in
-      let s = patchOf m word in
-      (omega (arith, l, some-bytes m word), omega (arith, l, ap length (d .after), length-append s (drop (length s) buffer)))
-  made-some M.NoRoom d q = absurd (omega arith)
-  made-some (M.Refused v) d q = absurd (refused-number v (verdictOf f m W L word) (patchOf m word) (length buffer) (d .answer) q)
+    -- a patch has at least four bytes
+    some-length : lengthOf v ≡ 0 → ⊥
+    unfolding patchOf
+    some-length z = omega (arith, z, length-is, encoding-length (effectFor m word))
 
-  -- it is handed out
-  pub hand : (r : Making) → Made f m W L buffer word r buffer′ → makingNumber r ≡ 0 → HandsOut f m W L word (take (lengthMade r) buffer′)
-  hand (M.Done n b k) d q = record { before = buffer; after = buffer′; elements = n; bytes = b; size = k; made = d; string = refl }
-  hand M.NoRoom d q = absurd (omega arith)
-  hand (M.Refused v) d q = absurd (refused-number v (verdictOf f m W L word) (patchOf m word) (length buffer) (d .answer) q)
+    -- they stand in the buffer
+    in-buffer : lengthOf v ≤ length buffer′
+    in-buffer =
+        let p = patchFor m word in
+        let q = ap (λ (y : Verdict). bufferAfter y p buffer) (is-done f m W mem word buffer v mem′ buffer′ c e .answer) in
+        omega (arith, length-is, ap length (c .patch ∙ q), length-append p (drop (length p) buffer))
 
-  -- a done store's, in a buffer with room
-  pub is-made : (r : Making) → Made f m W L buffer word r buffer′ → NoneDue f m W L word → length (patchOf m word) ≤ length buffer
-      → makingNumber r ≡ 0
-  is-made r d n h = demand3 .makes f m W L buffer word r buffer′ d .0 .1 (n, h)
+    -- and are handed out
+    hand : HandsOut f m W mem word buffer (take (lengthOf v) buffer′)
+    hand =
+        let es = elementsFor m (decodeOf word) in
+        record {
+          elements = length es;
+          bytes = length es * sizeFor (decodeOf word);
+          size = length (patchFor m word);
+          memory = mem′;
+          after = buffer′;
+          stored =
+              subst (λ (y : Verdict). Stored f m W mem word buffer y mem′ buffer′)
+              (is-done f m W mem word buffer v mem′ buffer′ c e .answer) c;
+          string = ap (λ (n : ℕ). take n buffer′) length-is;
+        }
+
+  done-store : NoneDue f m W (length mem) word → HasRoom m word buffer → number v ≡ 0
+  done-store due room = demand3 .stores f m W mem word buffer v mem′ buffer′ c .0 .1 (due, room)
+
+  pub part-in : (lengthOf v ≡ 0 → ⊥) → lengthOf v ≤ length buffer′
+  part-in h = in-buffer (done-by v h)
+
+-- ---- one application
+
+pub if-refused : {W : ℕ} {m s m′ : List ℕ} (a : Applied) → AppliedTo W m s a m′ → (appliedNumber a ≡ 0 → ⊥) → AppliedIf W m s false m′
+if-refused a o h = record { answer = a; outcome = o; done = (λ t. absurdly cc, λ t. absurd (h t)) }
 
 -- ---- the filling sentence
 
-module _ (f : Flags) (m : Machine) (W : ℕ) (mem copy : List ℕ) (word : ℕ) (buffer : List ℕ) (v : Verdict) (mem′ : List ℕ)
-    (ran : Ran f m W mem word v mem′) (buffer′ : List ℕ) where
-  replayed-done : Bytes (m .z) → Bytes mem → (n b k : ℕ) → Made f m W (length mem) buffer word (M.Done n b k) buffer′
-      → (s : List ℕ) → s ≡ take k buffer′ → (r : Bool) (copy′ : List ℕ) → AppliedIf W copy s r copy′
-      → Replayed f m W mem copy word buffer r mem′ copy′ buffer′
-  replayed-done bz bm n b k d s e r copy′ a =
+then-applied : (v : Verdict) (W : ℕ) (buffer target : List ℕ) (r : Bool) (target′ : List ℕ) → (lengthOf v ≡ 0 → ⊥)
+    → AppliedIf W target (take (lengthOf v) buffer) r target′ → ThenApplied v W buffer target r target′
+then-applied (Done n b k) W buffer target r target′ h a = a
+then-applied (Refused x) W buffer target r target′ h a = absurd (h refl)
+
+none-applied : (v : Verdict) (W : ℕ) (buffer target : List ℕ) → (number v ≡ 0 → ⊥) → ThenApplied v W buffer target false target
+none-applied (Done n b k) W buffer target h = absurd (h refl)
+none-applied (Refused x) W buffer target h = (refl, refl)
+
+module _ (f : Flags) (m : Machine) (W : ℕ) (mem other target : List ℕ) (word : ℕ) (buffer scratch : List ℕ) (v v₁ : Verdict)
+    (mem′ other′ buffer′ scratch′ : List ℕ) (c : Stored f m W mem word buffer v mem′ buffer′)
+    (c₁ : Stored f m W other word scratch v₁ other′ scratch′) where
+  pub replayed : Bytes (m .z) → Bytes mem → Bytes other → (lengthOf v ≡ 0 → ⊥) → (s : List ℕ) → s ≡ take (lengthOf v) buffer′
+      → (r : Bool) (target′ : List ℕ) → AppliedIf W target s r target′
+      → Replayed f m W mem other target word buffer scratch r mem′ other′ target′ buffer′ scratch′
+  replayed bz bm bo h s e r target′ a =
+      let p = take (lengthOf v) buffer′ in
+      let b : AppliedIf W target p r target′ = subst (λ (t : List ℕ). AppliedIf W target t r target′) e a in
       record {
         verdict = v;
-        making = M.Done n b k;
-        ran = ran;
-        made = d;
-        applied = subst (λ (t : List ℕ). AppliedIf W copy t r copy′) e a;
-        leaves = λ due room q.
-            let h = hand f m W (length mem) buffer word buffer′ (M.Done n b k) d refl in
+        verdict₁ = v₁;
+        stored = c;
+        stored₁ = c₁;
+        applied = then-applied v W buffer′ target r target′ h b;
+        leaves = λ due room room₁ l q.
+            let g = hand f m W mem word buffer v mem′ buffer′ c (done-by v h) in
             let u =
-            demand3 .applies f m W (length mem) word (record { none-due = due; lent = bz }) s
-            (subst (HandsOut f m W (length mem) word) (sym e) h) mem (record { long = refl; bytes = bm }) v mem′ ran (a .answer) copy′
-            (subst (λ (t : List ℕ). AppliedTo W t s (a .answer) copy′) q (a .outcome)) in
-            (a .done .1 (u .0), u .1);
+            demand3 .applies f m W (length mem) word (record { none-due = due; lent = bz }) mem buffer p
+            (record { long = refl; bytes = bm }) g other other′ (record { long = l; bytes = bo })
+            (record { buffer = scratch; room = room₁; verdict = v₁; after = scratch′; stored = c₁ })
+            (b .answer) target′ (subst (λ (t : List ℕ). AppliedTo W t p (b .answer) target′) q (b .outcome)) in
+            (b .done .1 (u .0), u .1);
       }
 
-  pub replayed : Bytes (m .z) → Bytes mem → (q : Making) → Made f m W (length mem) buffer word q buffer′ → (lengthMade q ≡ 0 → ⊥)
-      → (s : List ℕ) → s ≡ take (lengthMade q) buffer′ → (r : Bool) (copy′ : List ℕ) → AppliedIf W copy s r copy′
-      → Replayed f m W mem copy word buffer r mem′ copy′ buffer′
-  replayed bz bm (M.Done n b k) d h s e r copy′ a = replayed-done bz bm n b k d s e r copy′ a
-  replayed bz bm M.NoRoom d h s e r copy′ a = absurd (h refl)
-  replayed bz bm (M.Refused w) d h s e r copy′ a = absurd (h refl)
-
-  -- where nothing was made, a condition was due or there was no room
-  none-made : (r : Making) → Made f m W (length mem) buffer word r buffer′ → lengthMade r ≡ 0 → NoneDue f m W (length mem) word
-      → length (patchOf m word) ≤ length buffer → ⊥
-  none-made r d e due room =
-      let q = is-made f m W (length mem) buffer word buffer′ r d due room in
-      omega (arith, e, made-some f m W (length mem) buffer word buffer′ r d q .0)
-
-  pub not-replayed : (r : Making) → Made f m W (length mem) buffer word r buffer′ → lengthMade r ≡ 0
-      → Replayed f m W mem copy word buffer false mem′ copy buffer′
-  not-replayed (M.Done n b k) d e = absurd (omega (arith, e, made-some f m W (length mem) buffer word buffer′ (M.Done n b k) d refl .0))
-  not-replayed M.NoRoom d e =
+  pub not-replayed : lengthOf v ≡ 0 → Replayed f m W mem other target word buffer scratch false mem′ other′ target buffer′ scratch′
+  not-replayed z =
+      let none : number v ≡ 0 → ⊥ = λ e. some-length f m W mem word buffer v mem′ buffer′ c e z in
       record {
         verdict = v;
-        making = M.NoRoom;
-        ran = ran;
-        made = d;
-        applied = (refl, refl);
-        leaves = λ due room q. absurd (none-made M.NoRoom d e due room);
-      }
-  not-replayed (M.Refused w) d e =
-      record {
-        verdict = v;
-        making = M.Refused w;
-        ran = ran;
-        made = d;
-        applied = (refl, refl);
-        leaves = λ due room q. absurd (none-made (M.Refused w) d e due room);
+        verdict₁ = v₁;
+        stored = c;
+        stored₁ = c₁;
+        applied = none-applied v W buffer′ target none;
+        leaves = λ due room room₁ l q. absurd (none (done-store f m W mem word buffer v mem′ buffer′ c due room));
       }
 
 -- ---- the equality sentence
 
-module _ (W L : ℕ) (f : Flags) (m : Machine) (word : ℕ) (f₁ : Flags) (m₁ : Machine) (word₁ : ℕ) (buffer buffer₁ : List ℕ)
-    (q q₁ : Making) (buffer′ buffer₁′ : List ℕ) (d : Made f m W L buffer word q buffer′)
-    (d₁ : Made f₁ m₁ W L buffer₁ word₁ q₁ buffer₁′) where
-  pub compared : Bytes (m .z) → Bytes (m₁ .z) → (lengthMade q ≡ 0 → ⊥) → (lengthMade q₁ ≡ 0 → ⊥) → (s s₁ : List ℕ)
-      → s ≡ take (lengthMade q) buffer′ → s₁ ≡ take (lengthMade q₁) buffer₁′ → (r : Bool) → (r ≡ true) ↔ (s ≡ s₁)
-      → Compared W L f m word f₁ m₁ word₁ buffer buffer₁ r buffer′ buffer₁′
-  compared bz bz₁ n n₁ s s₁ e e₁ r c =
-      let k : makingNumber q ≡ 0 = made-if f m word buffer q buffer′ d n in
-      let k₁ : makingNumber q₁ ≡ 0 = made-if f₁ m₁ word₁ buffer₁ q₁ buffer₁′ d₁ n₁ in
-      let h = hand f m W L buffer word buffer′ q d k in
-      let h₁ = hand f₁ m₁ W L buffer₁ word₁ buffer₁′ q₁ d₁ k₁ in
+module _ (W : ℕ) (f : Flags) (m : Machine) (mem : List ℕ) (word : ℕ) (f₁ : Flags) (m₁ : Machine) (mem₁ : List ℕ) (word₁ : ℕ)
+    (buffer buffer₁ : List ℕ) (v v₁ : Verdict) (mem′ mem₁′ buffer′ buffer₁′ : List ℕ)
+    (c : Stored f m W mem word buffer v mem′ buffer′) (c₁ : Stored f₁ m₁ W mem₁ word₁ buffer₁ v₁ mem₁′ buffer₁′) where
+  pub compared : Bytes (m .z) → Bytes (m₁ .z) → Bytes mem → Bytes mem₁ → (lengthOf v ≡ 0 → ⊥) → (lengthOf v₁ ≡ 0 → ⊥)
+      → (s s₁ : List ℕ) → s ≡ take (lengthOf v) buffer′ → s₁ ≡ take (lengthOf v₁) buffer₁′ → (r : Bool) → (r ≡ true) ↔ (s ≡ s₁)
+      → Compared W f m mem word f₁ m₁ mem₁ word₁ buffer buffer₁ r mem′ mem₁′ buffer′ buffer₁′
+  compared bz bz₁ bm bm₁ h h₁ s s₁ e e₁ r t =
+      let p = take (lengthOf v) buffer′ in
+      let p₁ = take (lengthOf v₁) buffer₁′ in
+      let k = done-by v h in
+      let k₁ = done-by v₁ h₁ in
+      let same : (r ≡ true) ↔ (p ≡ p₁) = (λ y. sym e ∙ t .0 y ∙ e₁, λ y. t .1 (e ∙ y ∙ sym e₁)) in
       record {
-        making = q;
-        making₁ = q₁;
-        made = d;
-        made₁ = d₁;
-        answer = (λ t. (k, k₁, sym e ∙ c .0 t ∙ e₁), λ t. c .1 (e ∙ t .2 ∙ sym e₁));
-        same = λ due due₁ room room₁.
+        verdict = v;
+        verdict₁ = v₁;
+        stored = c;
+        stored₁ = c₁;
+        answer = (λ y. (k, k₁, same .0 y), λ y. same .1 (y .2));
+        same = λ due due₁ room room₁ l.
             let u =
-            demand3 .same W L f f₁ m m₁ word word₁ (record { none-due = due; lent = bz }) (record { none-due = due₁; lent = bz₁ })
-            (take (lengthMade q) buffer′) (take (lengthMade q₁) buffer₁′) h h₁ in
-            (λ t. u .0 (sym e ∙ c .0 t ∙ e₁), λ t. c .1 (e ∙ u .1 t ∙ sym e₁));
+            demand3 .same W (length mem) f f₁ m m₁ word word₁
+            (record { none-due = due; lent = bz }) (record { none-due = due₁; lent = bz₁ })
+            mem mem₁ buffer buffer₁ p p₁ (record { long = refl; bytes = bm }) (record { long = l; bytes = bm₁ })
+            (hand f m W mem word buffer v mem′ buffer′ c k) (hand f₁ m₁ W mem₁ word₁ buffer₁ v₁ mem₁′ buffer₁′ c₁ k₁) in
+            (λ y. u .0 (same .0 y), λ y. same .1 (u .1 y));
       }
-    where
-      made-if : (f : Flags) (m : Machine) (word : ℕ) (buffer : List ℕ) (q : Making) (buffer′ : List ℕ)
-          → Made f m W L buffer word q buffer′ → (lengthMade q ≡ 0 → ⊥) → makingNumber q ≡ 0
-      made-if f m word buffer (M.Done n b k) buffer′ d n′ = refl
-      made-if f m word buffer M.NoRoom buffer′ d n′ = absurd (n′ refl)
-      made-if f m word buffer (M.Refused v) buffer′ d n′ = absurd (n′ refl)
 
-  pub not-compared : (lengthMade q ≡ 0) ⊎ (lengthMade q₁ ≡ 0) → Compared W L f m word f₁ m₁ word₁ buffer buffer₁ false buffer′ buffer₁′
-  not-compared e =
+  pub not-compared : (lengthOf v ≡ 0) ⊎ (lengthOf v₁ ≡ 0)
+      → Compared W f m mem word f₁ m₁ mem₁ word₁ buffer buffer₁ false mem′ mem₁′ buffer′ buffer₁′
+  not-compared z =
+      let never : number v ≡ 0 → number v₁ ≡ 0 → ⊥ =
+      λ k k₁.
+      ⊎-elim (some-length f m W mem word buffer v mem′ buffer′ c k) (some-length f₁ m₁ W mem₁ word₁ buffer₁ v₁ mem₁′ buffer₁′ c₁ k₁) z in
       record {
-        making = q;
-        making₁ = q₁;
-        made = d;
-        made₁ = d₁;
-        answer = (λ t. absurdly cc, λ t. absurd (never (t .0) (t .1)));
-        same = λ due due₁ room room₁.
-            absurd (never (is-made f m W L buffer word buffer′ q d due room) (is-made f₁ m₁ W L buffer₁ word₁ buffer₁′ q₁ d₁ due₁ room₁));
+        verdict = v;
+        verdict₁ = v₁;
+        stored = c;
+        stored₁ = c₁;
+        answer = (λ y. absurdly cc, λ y. absurd (never (y .0) (y .1)));
+        same = λ due due₁ room room₁ l.
+            absurd
+            (never (done-store f m W mem word buffer v mem′ buffer′ c due room)
+            (done-store f₁ m₁ W mem₁ word₁ buffer₁ v₁ mem₁′ buffer₁′ c₁ (subst (λ (n : ℕ). NoneDue f₁ m₁ W n word₁) (sym l) due₁) room₁));
       }
-    where
-      never : makingNumber q ≡ 0 → makingNumber q₁ ≡ 0 → ⊥
-      never k k₁ =
-          ⊎-elim (λ z. omega (arith, z, made-some f m W L buffer word buffer′ q d k .0))
-          (λ z. omega (arith, z, made-some f₁ m₁ W L buffer₁ word₁ buffer₁′ q₁ d₁ k₁ .0)) e
-
--- a number other than 0 for what was made
-pub some-made : (f : Flags) (m : Machine) (W L : ℕ) (buffer : List ℕ) (word : ℕ) (buffer′ : List ℕ) (q : Making)
-    → Made f m W L buffer word q buffer′ → (lengthMade q ≡ 0 → ⊥) → lengthMade q ≤ length buffer′
-some-made f m W L buffer word buffer′ (M.Done n b k) d h = made-some f m W L buffer word buffer′ (M.Done n b k) d refl .1
-some-made f m W L buffer word buffer′ M.NoRoom d h = absurd (h refl)
-some-made f m W L buffer word buffer′ (M.Refused v) d h = absurd (h refl)

@@ -1,7 +1,7 @@
 pub mod Listed
-pub mod Running
+pub mod Sources
+pub mod Storing
 pub mod Effects
-pub mod Making
 pub mod Applying
 pub mod Demand1
 pub mod Demand2

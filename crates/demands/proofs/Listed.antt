@@ -6,12 +6,12 @@ use mathlib.Core.Option.{some}
 use Prim.Native.Nat.{ℕ, zero, suc, _+_, _≤_, _<_}
 use native.Mathlib.Omega.{arith}
 use lib.ListN.{length}
-use Rattle.writes.proofs.Order.{two, absurdly}
+use Rattle.window.proofs.Order.{two, absurdly}
 use Rattle.writes.specs.Elements.{Element}
-use Rattle.writes.specs.Window.{inWindow}
+use Rattle.window.specs.Window.{inWindow}
 use Rattle.elements.specs.Elements.{actives}
-use Rattle.checks.specs.Verdicts.{firstOutside}
-use Rattle.demands.specs.Demand2.{Listed, here, there}
+use Rattle.verdicts.specs.Verdicts.{firstOutside}
+use Rattle.verdicts.specs.Statements.{Listed, here, there}
 
 -- the first of a list, or one of the others
 split : {X : Type 0} (x y : Element) (ys : List Element) → Listed x (y ∷ ys) → (x ≡ y → X) → (Listed x ys → X) → X

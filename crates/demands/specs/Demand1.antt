@@ -1,16 +1,14 @@
--- Demand 1 as one statement, over the predicates of the contracts of `run` (`Ran`), `make_patch` (`Made`) and `apply` (`AppliedTo`).
--- Its proof is `demand1` in proofs/Demand1.antt. Assumes nothing.
+-- Demand 1 as one statement, over the predicates of the contracts of `store` (`Stored`) and `apply` (`AppliedTo`). Its proof is `demand1`
+-- in proofs/Demand1.antt. Assumes nothing.
 use Prim.Native.Nat.{ℕ, _≤_}
 use mathlib.Core.List.{List}
 use mathlib.Core.Logic.{_⊎_}
 use mathlib.Core.Path.{_≡_}
 use Rattle.elements.specs.Machine.{Machine}
-use Rattle.checks.specs.Verdicts.{number}
-use Rattle.running.specs.Running.{Ran}
-use Rattle.checks.specs.declared.Flags.{Flags}
-use Rattle.checks.specs.declared.Verdict.{Verdict}
-use Rattle.making.specs.Making.{makingNumber, Made}
-use Rattle.making.specs.declared.Making.{Making}
+use Rattle.verdicts.specs.Verdicts.{number}
+use Rattle.verdicts.specs.declared.Flags.{Flags}
+use Rattle.verdicts.specs.declared.Verdict.{Verdict}
+use Rattle.storing.specs.Storing.{Stored}
 use Rattle.patch.specs.Answers.{appliedNumber}
 use Rattle.patch.specs.Applying.{AppliedTo}
 use Rattle.patch.specs.declared.Applied.{Applied}
@@ -22,28 +20,30 @@ pub record ExactlyOne {A : Type 0} (P : A → List ℕ → Type 0) : Type 0 wher
   pub meets : P answer content
   pub only : (a : A) (l : List ℕ) → P a l → (a ≡ answer) × (l ≡ content)
 
+-- an answer, a memory and a buffer at exit meet the predicate, and no others do
+pub record OneOutcome {A : Type 0} (P : A → List ℕ → List ℕ → Type 0) : Type 0 where
+  pub answer : A
+  pub memory : List ℕ
+  pub buffer : List ℕ
+  pub meets : P answer memory buffer
+  pub only : (a : A) (l k : List ℕ) → P a l k → (a ≡ answer) × (l ≡ memory) × (k ≡ buffer)
+
 -- the numbers of document 01's verdicts on applying
 abbrev pub OfApplying : ℕ → Type 0
 OfApplying n = (n ≡ 0) ⊎ ((n ≡ 3) ⊎ ((n ≡ 9) ⊎ (n ≡ 10)))
 
 pub record Demand1 : Type 0 where
   -- "Any instruction word, register contents and memory window get exactly one verdict"; "Nothing is asked of the caller
-  -- beforehand.": for every input there is one, with one content of the lent buffer at exit
-  pub run-one : (f : Flags) (m : Machine) (W : ℕ) (mem : List ℕ) (word : ℕ) → ExactlyOne (Ran f m W mem word)
-  pub make-one : (f : Flags) (m : Machine) (W L : ℕ) (buffer : List ℕ) (word : ℕ) → ExactlyOne (Made f m W L buffer word)
+  -- beforehand.": for every input there is one, with one content of each lent buffer at exit
+  pub store-one : (f : Flags) (m : Machine) (W : ℕ) (mem : List ℕ) (word : ℕ) (buffer : List ℕ) → OneOutcome (Stored f m W mem word buffer)
   pub apply-one : (W : ℕ) (mem s : List ℕ) → ExactlyOne (AppliedTo W mem s)
-  -- "done, or one of the numbered refusals of document 01, among them undefined, illegal, fault and no room": "Running a store
-  -- checks 1 to 7; making its patch checks 1 to 8"; "Applying checks 3, 9, 10."; "Done is number 0". The answers have no
-  -- other kinds.
-  pub run-numbered : (f : Flags) (m : Machine) (W : ℕ) (mem : List ℕ) (word : ℕ) (v : Verdict) (mem′ : List ℕ)
-      → Ran f m W mem word v mem′ → number v ≤ 7
-  pub make-numbered : (f : Flags) (m : Machine) (W L : ℕ) (buffer : List ℕ) (word : ℕ) (r : Making) (buffer′ : List ℕ)
-      → Made f m W L buffer word r buffer′ → makingNumber r ≤ 8
+  -- "done, or one of the numbered refusals of document 01, among them undefined, illegal, fault and no room"; document 02 (ix): "one
+  -- call checks 1 to 7, 12 and 8"; "Applying checks 3, 9, 10."; "Done is number 0". The answers have no other kinds.
+  pub store-numbered : (f : Flags) (m : Machine) (W : ℕ) (mem : List ℕ) (word : ℕ) (buffer : List ℕ) (v : Verdict) (mem′ buffer′ : List ℕ)
+      → Stored f m W mem word buffer v mem′ buffer′ → number v ≤ 8
   pub apply-numbered : (W : ℕ) (mem s : List ℕ) (r : Applied) (mem′ : List ℕ) → AppliedTo W mem s r mem′ → OfApplying (appliedNumber r)
   -- "Every verdict but done leaves memory and patch buffer byte for byte as they came."
-  pub run-keeps : (f : Flags) (m : Machine) (W : ℕ) (mem : List ℕ) (word : ℕ) (v : Verdict) (mem′ : List ℕ)
-      → Ran f m W mem word v mem′ → (number v ≡ 0 → ⊥) → mem′ ≡ mem
-  pub make-keeps : (f : Flags) (m : Machine) (W L : ℕ) (buffer : List ℕ) (word : ℕ) (r : Making) (buffer′ : List ℕ)
-      → Made f m W L buffer word r buffer′ → (makingNumber r ≡ 0 → ⊥) → buffer′ ≡ buffer
+  pub store-keeps : (f : Flags) (m : Machine) (W : ℕ) (mem : List ℕ) (word : ℕ) (buffer : List ℕ) (v : Verdict) (mem′ buffer′ : List ℕ)
+      → Stored f m W mem word buffer v mem′ buffer′ → (number v ≡ 0 → ⊥) → (mem′ ≡ mem) × (buffer′ ≡ buffer)
   pub apply-keeps : (W : ℕ) (mem s : List ℕ) (r : Applied) (mem′ : List ℕ)
       → AppliedTo W mem s r mem′ → (appliedNumber r ≡ 0 → ⊥) → mem′ ≡ mem

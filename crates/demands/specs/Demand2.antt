@@ -2,7 +2,7 @@
 use Prim.Native.Nat.{ℕ, suc, _+_, _*_, _≤_, _<_}
 use mathlib.Core.Bool.{Bool, true, false}
 use mathlib.Core.List.{List, [], _∷_, _++_}
-use mathlib.Core.Logic.{_↔_}
+use mathlib.Core.Logic.{_↔_, _⊎_}
 use mathlib.Core.Option.{Option·getD}
 use mathlib.Core.Path.{_≡_}
 use lib.ListN.{length, getD, replicate}
@@ -21,32 +21,25 @@ use Rattle.writes.specs.Elements.{Element, lastAt}
 use Rattle.writes.specs.Encoding.{PatchOf}
 use Rattle.writes.specs.Sets.{ByteWrite, Run, run, runs}
 use Rattle.writes.specs.Statements.{Among}
-use Rattle.writes.specs.Window.{windowOk, inWindow}
+use Rattle.window.specs.Window.{windowOk, inWindow}
 use Rattle.elements.specs.Machine.{Machine}
-use Rattle.elements.specs.Stores.{sizeOf, countOf, registerIn, placeIn}
+use Rattle.elements.specs.Stores.{sizeOf, countOf, registerIn, indexIn}
 use Rattle.elements.specs.Elements.{activeAt, elementAt, elements}
-use Rattle.checks.specs.Verdicts.{lengthOk, registersOk, elementsFor, number, numbers}
-use Rattle.running.specs.Running.{Ran}
-use Rattle.checks.specs.declared.Flags.{Flags}
-use Rattle.checks.specs.declared.Verdict.{Verdict}
-use Rattle.checks.specs.declared.Verdict.the-variants.{Done, Fault}
-use Rattle.making.specs.Making.{patchOf, makingNumber, makingNumbers, Made}
-use Rattle.making.specs.declared.Making.{Making}
-use Rattle.making.specs.declared.Making.the-variants as M
+use Rattle.verdicts.specs.Verdicts.{elementsFor, patchOf, lengthOk, registersOk, Row, table, number}
+use Rattle.verdicts.specs.Statements.{NoneGiven, Decides, before, TableNumbered, TableInOrder, TableGivenWhen, Listed}
+use Rattle.verdicts.specs.declared.Flags.{Flags}
+use Rattle.verdicts.specs.declared.Refusal.the-variants.{Fault}
+use Rattle.verdicts.specs.declared.Verdict.{Verdict}
+use Rattle.verdicts.specs.declared.Verdict.the-variants.{Done, Refused}
+use Rattle.storing.specs.Storing.{Stored, numbers}
 use Rattle.patch.specs.Answers.{appliedNumber, appliedNumbers, judgedNumber, judgedNumbers}
 use Rattle.patch.specs.Applying.{AppliedTo}
 use Rattle.patch.specs.Statements.{Encodes}
 use Rattle.patch.specs.declared.Applied.{Applied}
 use Rattle.patch.specs.declared.Applied.the-variants as A
 use Rattle.patch.specs.declared.Judged.the-variants as J
-use Rattle.demands.specs.Conditions.{conditions, makingConditions, firstHolding}
 
 -- ---- a done store's elements
-
--- x is one of the list
-pub data Listed (x : Element) : List Element → Type 0 where
-  here : {xs : List Element} → Listed x (x ∷ xs)
-  there : {y : Element} {xs : List Element} → Listed x xs → Listed x (y ∷ xs)
 
 -- the list has every active element of the store, and no other
 abbrev pub ListsTheActive : Type 0
@@ -62,42 +55,57 @@ Rising k (x ∷ xs) = (k ≤ x .number) × Rising (suc (x .number)) xs
 abbrev pub InAscendingOrder : Type 0
 InAscendingOrder = (m : Machine) (s : Store) → Rising 0 (elements m s)
 
--- each element of a word's store has exactly msize/8 bytes, and its byte k is byte r·VB + its place + k of the Z buffer
+-- each element of a word's store has exactly msize/8 bytes, and its byte k is byte r·VB + its index + k of the Z buffer
 abbrev pub ElementBytes : Type 0
 ElementBytes =
     (m : Machine) (word : ℕ) (s : Store) (e : ℕ) → lengthOk (m .vb) ≡ true → registersOk m ≡ true → decodeOf word ≡ D.Known s
     → e < countOf m s
     → (length (elementAt m s e .bytes) ≡ sizeOf (classFor s))
     × ((k : ℕ) → k < sizeOf (classFor s)
-    → getD (elementAt m s e .bytes) k 0 ≡ getD (m .z) (registerIn m (classFor s) s e * m .vb + placeIn m (classFor s) s e + k) 0)
+    → getD (elementAt m s e .bytes) k 0 ≡ getD (m .z) (registerIn m (classFor s) s e * m .vb + indexIn m (classFor s) s e + k) 0)
 
--- at each place of the window the memory after a done run has the byte of the last active element that covers it, or the old byte
-abbrev pub PlaceByPlace : Type 0
-PlaceByPlace =
-    (f : Flags) (m : Machine) (W : ℕ) (mem : List ℕ) (word n b : ℕ) (mem′ : List ℕ)
-    → Ran f m W mem word (Done n b) mem′
+-- at each offset in the window the memory after a done store has the byte of the last active element that covers it, or the old byte
+abbrev pub ByteByByte : Type 0
+ByteByByte =
+    (f : Flags) (m : Machine) (W : ℕ) (mem : List ℕ) (word : ℕ) (buffer : List ℕ) (n b k : ℕ) (mem′ buffer′ : List ℕ)
+    → Stored f m W mem word buffer (Done n b k) mem′ buffer′
     → (length mem′ ≡ length mem)
     × ((i : ℕ) → i < length mem → getD mem′ i 0 ≡ Option·getD (lastAt (W + i) (elementsFor m (decodeOf word))) (getD mem i 0))
 
--- done counts the active elements, and msize/8 bytes for each
+-- done counts the active elements, msize/8 bytes for each, and the patch's bytes
 abbrev pub CountsOfDone : Type 0
 CountsOfDone =
-    (f : Flags) (m : Machine) (W : ℕ) (mem : List ℕ) (word n b : ℕ) (mem′ : List ℕ) (s : Store)
-    → Ran f m W mem word (Done n b) mem′ → decodeOf word ≡ D.Known s
-    → (n ≡ length (elements m s)) × (b ≡ length (elements m s) * sizeOf (classFor s))
+    (f : Flags) (m : Machine) (W : ℕ) (mem : List ℕ) (word : ℕ) (buffer : List ℕ) (n b k : ℕ) (mem′ buffer′ : List ℕ) (s : Store)
+    → Stored f m W mem word buffer (Done n b k) mem′ buffer′ → decodeOf word ≡ D.Known s
+    → (n ≡ length (elements m s)) × (b ≡ length (elements m s) * sizeOf (classFor s)) × (k ≡ length (patchOf (elements m s)))
 
 -- ---- refusals
 
--- the number is that of the first condition that holds, in document 01's order, and 0 where none does
-abbrev pub RunningDecided : Type 0
-RunningDecided =
-    (f : Flags) (m : Machine) (W : ℕ) (mem : List ℕ) (word : ℕ) (v : Verdict) (mem′ : List ℕ)
-    → Ran f m W mem word v mem′ → number v ≡ firstHolding (conditions f m W (length mem) word)
+-- document 01's table for a call: on flags and machine, with the window of `mem` at W, a word and a patch buffer
+abbrev pub tableFor : Flags → Machine → ℕ → List ℕ → ℕ → List ℕ → List Row
+tableFor f m W mem word buffer = table f m W (length mem) (decodeOf word) (length buffer)
 
-abbrev pub MakingDecided : Type 0
-MakingDecided =
-    (f : Flags) (m : Machine) (W L : ℕ) (buffer : List ℕ) (word : ℕ) (r : Making) (buffer′ : List ℕ)
-    → Made f m W L buffer word r buffer′ → makingNumber r ≡ firstHolding (makingConditions f m W L buffer word)
+-- a number other than 0 is answered exactly when a line of that number is given and none before it is; done exactly when none is
+abbrev pub StoringDecided : Type 0
+StoringDecided =
+    (f : Flags) (m : Machine) (W : ℕ) (mem : List ℕ) (word : ℕ) (buffer : List ℕ) (v : Verdict) (mem′ buffer′ : List ℕ)
+    → Stored f m W mem word buffer v mem′ buffer′
+    → ((n : ℕ) → (n ≡ 0 → ⊥) → (number v ≡ n) ↔ Decides n (tableFor f m W mem word buffer))
+    × ((number v ≡ 0) ↔ NoneGiven (tableFor f m W mem word buffer))
+
+-- "some active element has a byte outside the window" of L bytes at W. Its bytes' addresses aren't taken modulo 2^64: "An element that
+-- would pass the top of the address space faults."
+abbrev pub SomeByteOutside : ℕ → ℕ → List Element → Type 0
+SomeByteOutside W L es =
+    (x : Element) × Listed x es × ((k : ℕ) × (k < length (x .bytes)) × ((x .address + k < W) ⊎ (W + L ≤ x .address + k)))
+
+-- 7 is answered exactly then, where nothing is given that stands before it
+abbrev pub FaultGiven : Type 0
+FaultGiven =
+    (f : Flags) (m : Machine) (W : ℕ) (mem : List ℕ) (word : ℕ) (buffer : List ℕ) (v : Verdict) (mem′ buffer′ : List ℕ)
+    → Stored f m W mem word buffer v mem′ buffer′
+    → (number v ≡ 7)
+    ↔ (NoneGiven (before 7 (tableFor f m W mem word buffer)) × SomeByteOutside W (length mem) (elementsFor m (decodeOf word)))
 
 -- "a run isn't wholly in the window"
 abbrev pub SomeRunOutside : ℕ → ℕ → List Run → Type 0
@@ -122,22 +130,13 @@ liesIn W L m s e = inWindow W L (elementAt m s e .address) (length (elementAt m 
 -- lies inside
 abbrev pub FaultNamesTheLowest : Type 0
 FaultNamesTheLowest =
-    (f : Flags) (m : Machine) (W : ℕ) (mem : List ℕ) (word e a : ℕ) (mem′ : List ℕ) (s : Store)
-    → Ran f m W mem word (Fault e a) mem′ → decodeOf word ≡ D.Known s
+    (f : Flags) (m : Machine) (W : ℕ) (mem : List ℕ) (word : ℕ) (buffer : List ℕ) (e a : ℕ) (mem′ buffer′ : List ℕ) (s : Store)
+    → Stored f m W mem word buffer (Refused (Fault e a)) mem′ buffer′ → decodeOf word ≡ D.Known s
     → (e < countOf m s)
     × (activeAt m s e ≡ true)
     × (a ≡ elementAt m s e .address)
     × (liesIn W (length mem) m s e ≡ false)
     × ((d : ℕ) → d < e → activeAt m s d ≡ true → liesIn W (length mem) m s d ≡ true)
-
--- making a patch is refused as running is, with the same detail; done, it counts as running does: "Making a patch returns, besides
--- the two counts, the patch's length"
-abbrev pub MakesAsItRuns : Type 0
-MakesAsItRuns =
-    (f : Flags) (m : Machine) (W : ℕ) (mem : List ℕ) (word : ℕ) (v : Verdict) (mem′ buffer : List ℕ) (r : Making) (buffer′ : List ℕ)
-    → Ran f m W mem word v mem′ → Made f m W (length mem) buffer word r buffer′
-    → ((number v ≡ 0 → ⊥) → r ≡ M.Refused v)
-    × ((n b : ℕ) → v ≡ Done n b → length (patchOf m word) ≤ length buffer → r ≡ M.Done n b (length (patchOf m word)))
 
 -- "lowest such run, its first address": the run of that number starts there and isn't wholly in the window, those before it are
 abbrev pub OutsideNamesTheLowest : Type 0
@@ -152,18 +151,12 @@ OutsideNamesTheLowest =
     × (inWindow W (length mem) a (length p) ≡ false)
     × ((t : ℕ) (q : List ℕ) → Among t q before → inWindow W (length mem) t (length q) ≡ true)
 
--- the five numbers: "Done [..] has zeros as its detail; a refusal's counts and lengths are 0."; zeros for 1 to 6
-abbrev pub RunningReturns : Type 0
-RunningReturns =
-    ((n b : ℕ) → numbers (Done n b) ≡ 0 ∷ 0 ∷ n ∷ b ∷ 0 ∷ [])
-    × ((e a : ℕ) → numbers (Fault e a) ≡ e ∷ a ∷ 0 ∷ 0 ∷ 0 ∷ [])
-    × ((v : Verdict) → (number v ≡ 0 → ⊥) → (number v ≡ 7 → ⊥) → numbers v ≡ replicate 5 0)
-
-abbrev pub MakingReturns : Type 0
-MakingReturns =
-    ((n b k : ℕ) → makingNumbers (M.Done n b k) ≡ 0 ∷ 0 ∷ n ∷ b ∷ k ∷ [])
-    × (makingNumbers M.NoRoom ≡ replicate 5 0)
-    × ((v : Verdict) → makingNumbers (M.Refused v) ≡ numbers v)
+-- the six numbers: "Done [..] has zeros as its detail; a refusal's counts and lengths are 0."; zeros for all refusals but 7
+abbrev pub StoringReturns : Type 0
+StoringReturns =
+    ((n b k : ℕ) → numbers (Done n b k) ≡ 0 ∷ 0 ∷ n ∷ b ∷ k ∷ 0 ∷ [])
+    × ((e a : ℕ) → numbers (Refused (Fault e a)) ≡ e ∷ a ∷ 0 ∷ 0 ∷ 0 ∷ 0 ∷ [])
+    × ((v : Verdict) → (number v ≡ 0 → ⊥) → (number v ≡ 7 → ⊥) → numbers v ≡ 0 ∷ 0 ∷ 0 ∷ 0 ∷ 0 ∷ 0 ∷ [])
 
 abbrev pub ApplyingReturns : Type 0
 ApplyingReturns =
@@ -199,21 +192,24 @@ pub record Demand2 : Type 0 where
   pub element-bytes : ElementBytes
   -- "in ascending element order, and touches no other byte"
   pub ascending : InAscendingOrder
-  pub place-by-place : PlaceByPlace
-  -- "Done reports the number of active elements and the number of bytes moved, the first times msize/8." (document 01)
+  pub byte-by-byte : ByteByByte
+  -- "Done reports the number of active elements and the number of bytes moved, the first times msize/8."; "besides the two counts, the
+  -- patch's length" (document 01)
   pub counts : CountsOfDone
-  -- "Each refusal is given exactly when document 01 says."
-  pub running : RunningDecided
-  pub making : MakingDecided
+  -- "Each refusal is given exactly when document 01 says.": the lines of its table have its numbers, its order and its conditions, and
+  -- the first that is given decides
+  pub numbered : TableNumbered
+  pub in-order : TableInOrder
+  pub given-when : TableGivenWhen
+  pub storing : StoringDecided
+  pub fault : FaultGiven
   pub applying : ApplyingDecided
   pub encoding : RefusedForACause
   pub encoding-numbers : RefusesNumbers
   -- "Returns besides the number" (document 01)
   pub fault-names : FaultNamesTheLowest
-  pub making-names : MakesAsItRuns
   pub outside-names : OutsideNamesTheLowest
-  pub running-returns : RunningReturns
-  pub making-returns : MakingReturns
+  pub storing-returns : StoringReturns
   pub applying-returns : ApplyingReturns
   pub judging-returns : JudgingReturns
   pub codec-returns : CodecReturns

@@ -1,13 +1,13 @@
 // The customer's demands stand in specs/, their proofs in proofs/. Two functions make the calls that demand 3 speaks of, and promise its
-// sentences: they follow from the contracts of `run`, `make_patch` and `apply` alone.
+// sentences: they follow from the contracts of `store` and `apply` alone.
 ghost use mathlib.Core.Path.{_≡_};
 ghost use mathlib.Core.Bool.{true};
 ghost use mathlib.Core.Logic.{_↔_};
 ghost use Rattle.elements.specs.Machine.{machine};
-ghost use Rattle.demands.specs.Calls.{lengthMade, AppliedIf, Replayed, Compared};
-use checks::Flags;
-use making::Making;
+ghost use Rattle.demands.specs.Calls.{lengthOf, AppliedIf, Replayed, Compared};
 use patch::Applied;
+use verdicts::Flags;
+use verdicts::Verdict;
 
 // Whether two byte strings are the same.
 fn equal(a: &[u8], b: &[u8]) -> bool
@@ -39,22 +39,22 @@ fn is_applied(base: u64, memory: &mut [u8], patch: &[u8]) -> bool
     }
 }
 
-// The length of a patch that was made; a patch has at least four bytes.
-fn length_made(made: Making) -> usize
-    ensures { λ r. ⌜ r ≡ lengthMade made ⌝ }
+// The length of a done store's patch, which has at least four bytes.
+fn length_of(verdict: Verdict) -> usize
+    ensures { λ r. ⌜ r ≡ lengthOf verdict ⌝ }
 {
-    match made {
-        Making::Done {
+    match verdict {
+        Verdict::Done {
             elements: _,
             bytes: _,
             length,
         } => length as usize,
-        Making::NoRoom => 0,
-        Making::Refused { verdict: _ } => 0,
+        Verdict::Refused { refusal: _ } => 0,
     }
 }
 
-// Runs a store over the window of `memory`, makes its patch, and applies that to the window of `copy`: whether that was done.
+// Makes a store over the window of `memory`, the same store over that of `other`, and applies the first one's patch to that of `target`:
+// whether that was done.
 pub fn replay(
     vb: usize,
     flags: Flags,
@@ -64,25 +64,26 @@ pub fn replay(
     p: &[u8],
     base: u64,
     memory: &mut [u8],
-    copy: &mut [u8],
+    other: &mut [u8],
+    target: &mut [u8],
     word: u32,
     patch: &mut [u8],
+    scratch: &mut [u8],
 ) -> bool
-    ensures { λ r.
-        ⌜ Replayed flags (machine vb (now (x .entry)) sp (now (z .entry)) (now (p .entry))) base (now (memory .entry))
-        (now (copy .entry)) word (now (patch .entry)) r (now (memory .exit)) (now (copy .exit)) (now (patch .exit)) ⌝ }
+    ensures { λ r. ⌜ Replayed flags (machine vb (now (x .entry)) sp (now (z .entry)) (now (p .entry))) base
+        (now (memory .entry)) (now (other .entry)) (now (target .entry)) word (now (patch .entry)) (now (scratch .entry)) r
+        (now (memory .exit)) (now (other .exit)) (now (target .exit)) (now (patch .exit)) (now (scratch .exit)) ⌝ }
 {
-    let length = memory.len() as u64;
-    running::run(vb, flags, x, sp, z, p, base, memory, word);
-    let made = making::make_patch(vb, flags, x, sp, z, p, base, length, word, patch);
-    let k = length_made(made);
+    let verdict = storing::store(vb, flags, x, sp, z, p, base, memory, word, patch);
+    storing::store(vb, flags, x, sp, z, p, base, other, word, scratch);
+    let k = length_of(verdict);
     if k == 0 {
         return false;
     }
-    is_applied(base, copy, &patch[0..k])
+    is_applied(base, target, &patch[0..k])
 }
 
-// Makes the patches of two stores for the window of `length` bytes at `base`: whether both are made and are the same bytes.
+// Makes two stores over windows at one address: whether both are done and their patches are the same bytes.
 pub fn same_patches(
     vb: usize,
     flags: Flags,
@@ -90,28 +91,30 @@ pub fn same_patches(
     sp: u64,
     z: &[u8],
     p: &[u8],
+    memory: &mut [u8],
     word: u32,
+    patch: &mut [u8],
     vb1: usize,
     flags1: Flags,
     x1: &[u64; 31],
     sp1: u64,
     z1: &[u8],
     p1: &[u8],
+    memory1: &mut [u8],
     word1: u32,
-    base: u64,
-    length: u64,
-    patch: &mut [u8],
     patch1: &mut [u8],
+    base: u64,
 ) -> bool
-    ensures { λ r.
-        ⌜ Compared base length flags (machine vb (now (x .entry)) sp (now (z .entry)) (now (p .entry))) word
-        flags1 (machine vb1 (now (x1 .entry)) sp1 (now (z1 .entry)) (now (p1 .entry))) word1
-        (now (patch .entry)) (now (patch1 .entry)) r (now (patch .exit)) (now (patch1 .exit)) ⌝ }
+    ensures { λ r. ⌜ Compared base
+        flags (machine vb (now (x .entry)) sp (now (z .entry)) (now (p .entry))) (now (memory .entry)) word
+        flags1 (machine vb1 (now (x1 .entry)) sp1 (now (z1 .entry)) (now (p1 .entry))) (now (memory1 .entry)) word1
+        (now (patch .entry)) (now (patch1 .entry)) r
+        (now (memory .exit)) (now (memory1 .exit)) (now (patch .exit)) (now (patch1 .exit)) ⌝ }
 {
-    let made = making::make_patch(vb, flags, x, sp, z, p, base, length, word, patch);
-    let made1 = making::make_patch(vb1, flags1, x1, sp1, z1, p1, base, length, word1, patch1);
-    let k = length_made(made);
-    let k1 = length_made(made1);
+    let verdict = storing::store(vb, flags, x, sp, z, p, base, memory, word, patch);
+    let verdict1 = storing::store(vb1, flags1, x1, sp1, z1, p1, base, memory1, word1, patch1);
+    let k = length_of(verdict);
+    let k1 = length_of(verdict1);
     if k == 0 {
         return false;
     }

@@ -8,19 +8,19 @@ use native.Mathlib.Omega.{arith}
 use lib.Dec.{leb, ltb}
 use lib.ListN.{length, drop, length-append}
 use borrow.Author.Tests.{lt-ltb, le-ltb, lt-leb, le-leb}
-use Rattle.writes.specs.LittleEndian.{Bytes}
+use Rattle.window.specs.LittleEndian.{Bytes}
 use Rattle.writes.specs.Sets.{run, writesOf}
-use Rattle.writes.specs.Elements.{Element, InWindow, over, written, below, from, splice, spliceAll, netEffect}
-use Rattle.writes.proofs.LittleEndian.{bytes-take, bytes-drop, bytes-append}
-use Rattle.writes.proofs.Order.{two}
+use Rattle.writes.specs.Elements.{Element, InWindow, written, below, from, splice, spliceAll, netEffect}
+use Rattle.window.specs.Overwriting.{overwritten}
+use Rattle.window.proofs.LittleEndian.{bytes-take, bytes-drop, bytes-append}
+use Rattle.window.proofs.Order.{two}
 use Rattle.writes.proofs.Net.{splice-stretch}
-use Rattle.writes.proofs.Overlay.{length-over}
-use Rattle.writes.proofs.Parts.{over-join}
+use Rattle.window.proofs.Parts.{length-over, over-join}
 use Rattle.elements.specs.Machine.{register}
 use Rattle.elements.specs.Elements.{actives}
-use Rattle.elements.specs.Plans.{StridedSound, stridedActive, stridedAddress, stridedElement, stridedElements}
-use Rattle.elements.specs.Plans.{bytesFrom, stridedBytes}
-use Rattle.elements.specs.declared.StridedPlan.{StridedPlan}
+use Rattle.elements.specs.Accesses.{StridedSound, stridedActive, stridedAddress, stridedElement, stridedElements}
+use Rattle.elements.specs.Accesses.{bytesFrom, stridedBytes}
+use Rattle.elements.specs.declared.StridedAccess.{StridedAccess}
 use Rattle.elements.proofs.Stretches.{actives-on, actives-off, none-left, active-in}
 use Rattle.elements.proofs.Moving.{bytes-long, active-long}
 
@@ -73,18 +73,19 @@ module _ (el : ℕ → Element) where
 
   written-listed : (W : ℕ) (mem : List ℕ) (n e : ℕ) → Consecutive (suc n) e → W ≤ el e .address
       → el e .address + length (bytesFrom el (suc n) e) ≤ W + length mem
-      → written W mem (listed el (suc n) e) ≡ over mem (el e .address - W) (bytesFrom el (suc n) e)
+      → written W mem (listed el (suc n) e) ≡ overwritten mem (el e .address - W) (bytesFrom el (suc n) e)
   unfolding listed bytesFrom written
-  written-listed W mem zero e f a b = ap (over mem (el e .address - W)) (sym (append-nil (el e .bytes)))
+  written-listed W mem zero e f a b = ap (overwritten mem (el e .address - W)) (sym (append-nil (el e .bytes)))
   written-listed W mem (suc n) e f a b =
       let p = el e .bytes in
       let P = bytesFrom el (suc n) (suc e) in
       let lp : length (p ++ P) ≡ length p + length P = length-append p P in
       let q : el (suc e) .address ≡ el e .address + length p = f e (omega arith) (omega arith) in
-      let lo : length (over mem (el e .address - W) p) ≡ length mem = length-over mem (el e .address - W) p (omega arith) in
+      let lo : length (overwritten mem (el e .address - W) p) ≡ length mem = length-over mem (el e .address - W) p (omega arith) in
       let w : el (suc e) .address - W ≡ el e .address - W + length p = omega arith in
-      written-listed W (over mem (el e .address - W) p) n (suc e) (λ i h k. f i (omega arith) (omega arith)) (omega arith) (omega arith)
-      ∙ ap (λ (x : ℕ). over (over mem (el e .address - W) p) x P) w
+      written-listed W (overwritten mem (el e .address - W) p) n (suc e) (λ i h k. f i (omega arith) (omega arith)) (omega arith)
+      (omega arith)
+      ∙ ap (λ (x : ℕ). overwritten (overwritten mem (el e .address - W) p) x P) w
       ∙ over-join mem (el e .address - W) p P (omega arith)
 
   spliced-listed : (n e a : ℕ) (p : List ℕ) → (0 < n → el e .address ≡ a + length p) → Consecutive n e
@@ -117,7 +118,7 @@ module _ (el : ℕ → Element) where
 
 -- ---- strided stores
 
-module _ (s : StridedPlan) (vb : ℕ) (o : StridedSound s vb) (z : List ℕ) where
+module _ (s : StridedAccess) (vb : ℕ) (o : StridedSound s vb) (z : List ℕ) where
   abbrev el : ℕ → Element
   el = stridedElement s vb z
 
@@ -179,7 +180,7 @@ module _ (s : StridedPlan) (vb : ℕ) (o : StridedSound s vb) (z : List ℕ) whe
         let a : 0 < s .high - s .low = omega arith in
         omega (arith, active-long s vb o z q, mul-pos a (o .some))
 
-    -- all from one place on that doesn't pass the top
+    -- all from one address on that doesn't pass the top
     module _ (h : s .low < s .high) (top : stridedAddress s (s .low) + (s .high - s .low) * s .size ≤ 2 ^ 64) where
       reached : (d : ℕ) → s .low + d < s .high → stridedAddress s (s .low + d) ≡ stridedAddress s (s .low) + d * s .size
       reached =
@@ -224,8 +225,8 @@ module _ (s : StridedPlan) (vb : ℕ) (o : StridedSound s vb) (z : List ℕ) whe
           step i a (omega arith) ∙ ap (λ (n : ℕ). stridedAddress s i + n) (sym (bytes-long s vb o z q i (omega arith)))
 
       -- all that they write lies in the window
-      pub strided-place : (W ≤ stridedAddress s (s .low)) × (stridedAddress s (s .low) + (s .high - s .low) * s .size ≤ W + L)
-      strided-place =
+      pub strided-bounds : (W ≤ stridedAddress s (s .low)) × (stridedAddress s (s .low) + (s .high - s .low) * s .size ≤ W + L)
+      strided-bounds =
           let d = s .high - s .low - 1 in
           let a : s .low + d < s .high = omega arith in
           let w : suc d ≡ s .high - s .low = omega arith in
@@ -239,7 +240,7 @@ module _ (s : StridedPlan) (vb : ℕ) (o : StridedSound s vb) (z : List ℕ) whe
           last d p r e = omega (arith, suc-mul d (s .size))
 
       pub strided-written : (mem : List ℕ) → length mem ≡ L
-          → written W mem (stridedElements s vb z) ≡ over mem (stridedAddress s (s .low) - W) (stridedBytes s vb z)
+          → written W mem (stridedElements s vb z) ≡ overwritten mem (stridedAddress s (s .low) - W) (stridedBytes s vb z)
       unfolding stridedBytes stridedElement
       strided-written mem lm = go (s .high - s .low) (omega arith) strided-listed consecutive active-long-here
         where
@@ -248,11 +249,11 @@ module _ (s : StridedPlan) (vb : ℕ) (o : StridedSound s vb) (z : List ℕ) whe
 
           go : (n : ℕ) → 0 < n → stridedElements s vb z ≡ listed el n (s .low) → Consecutive el n (s .low)
               → length (bytesFrom el n (s .low)) ≡ (s .high - s .low) * s .size
-              → written W mem (stridedElements s vb z) ≡ over mem (stridedAddress s (s .low) - W) (bytesFrom el n (s .low))
+              → written W mem (stridedElements s vb z) ≡ overwritten mem (stridedAddress s (s .low) - W) (bytesFrom el n (s .low))
           go zero k e f l = absurd (omega arith)
           go (suc n) k e f l =
               ap (written W mem) e
-              ∙ written-listed el W mem n (s .low) f (strided-place .0) (omega (arith, strided-place .1))
+              ∙ written-listed el W mem n (s .low) f (strided-bounds .0) (omega (arith, strided-bounds .1))
 
       pub strided-net : Bytes z
           → netEffect (stridedElements s vb z) ≡ writesOf (run (stridedAddress s (s .low)) (stridedBytes s vb z) ∷ [])
@@ -265,4 +266,4 @@ module _ (s : StridedPlan) (vb : ℕ) (o : StridedSound s vb) (z : List ℕ) whe
           go zero k t e f l = absurd (omega arith)
           go (suc n) k t e f l =
               ap (λ (x : List Element). netEffect x) e
-              ∙ net-listed el n (s .low) f (λ i a b. element-bytes bz i) (omega (arith, strided-place .1))
+              ∙ net-listed el n (s .low) f (λ i a b. element-bytes bz i) (omega (arith, strided-bounds .1))

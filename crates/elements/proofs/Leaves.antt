@@ -41,7 +41,7 @@ signed-wrapped x r h k e = go (ltb x (2 ^ 31)) refl
 
 -- ---- counters
 
--- what holds at each of the four places holds at a counter's lowest set bit
+-- what holds at each of the four bits holds at a counter's lowest set bit
 pub at-lowest : (P : ℕ → Type 0) → P 0 → P 1 → P 2 → P 3 → (v : ℕ) → P (lowestSet v)
 unfolding lowestSet
 at-lowest P p q r s v = go (eqb (v % 2) 1) (eqb (v % 4) 2) (eqb (v % 8) 4)

@@ -1,10 +1,11 @@
 pub mod Leaves
 pub mod Shapes
 pub mod Bits
-pub mod Planning
+pub mod Numbers
 pub mod Listing
 pub mod Soundness
 pub mod Stretches
 pub mod Ranges
 pub mod Moving
 pub mod Joined
+pub mod Copying

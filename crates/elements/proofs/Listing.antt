@@ -1,4 +1,4 @@
--- Lists of active elements: one more, and a store's list as its plan's. Assumes nothing.
+-- Lists of active elements: one more, and a store's list as its access's. Assumes nothing.
 use mathlib.Core.Path.{_≡_, refl, sym, ap, ap₂, _∙_}
 use mathlib.Core.Bool.{Bool, true, false, cond}
 use mathlib.Core.List.{List, [], _∷_}
@@ -18,16 +18,17 @@ use Rattle.encoding.specs.declared.StridedFields.{StridedFields}
 use Rattle.encoding.specs.declared.QuadwordFields.{QuadwordFields}
 use Rattle.encoding.specs.declared.Store.{Store}
 use Rattle.encoding.specs.declared.Store.the-variants.{Scatter, Strided, Quadword}
-use Rattle.writes.specs.LittleEndian.{Bytes, leVal}
+use Rattle.window.specs.LittleEndian.{Bytes, leVal}
 use Rattle.writes.specs.Elements.{Element}
-use Rattle.writes.proofs.LittleEndian.{bytes-take, bytes-drop}
+use Rattle.window.proofs.LittleEndian.{bytes-take, bytes-drop}
 use Rattle.elements.specs.Machine.{Machine, baseOf, indexOf, vector, predicate}
 use Rattle.elements.specs.Counter.{counterOf, maskBit}
 use Rattle.elements.specs.Stores.{stepOf, sizeOf, perRegister, countOf, signed32, offsetOf, startOf}
 use Rattle.elements.specs.Elements.{activeAt, elementAt, actives, elements}
-use Rattle.elements.specs.Plans.{offsetFrom, vectorAddress, vectorActive, vectorElement, vectorElements, scatterPlan, quadwordPlan}
-use Rattle.elements.specs.Plans.{stridedAddress, stridedActive, stridedElement, stridedElements, stridedPlan}
-use Rattle.elements.specs.declared.VectorPlan.{VectorPlan}
+use Rattle.elements.specs.Accesses.{offsetFrom, vectorAddress, vectorActive, vectorElement, vectorElements, scatterAccess}
+use Rattle.elements.specs.Accesses.{quadwordAccess}
+use Rattle.elements.specs.Accesses.{stridedAddress, stridedActive, stridedElement, stridedElements, stridedAccess}
+use Rattle.elements.specs.declared.VectorAccess.{VectorAccess}
 use Rattle.elements.proofs.Shapes.{ScatterIn, QuadwordIn, StridedIn}
 use Rattle.elements.proofs.Ranges.{range-is}
 use Rattle.elements.proofs.Stretches.{actives-on, actives-off}
@@ -92,7 +93,7 @@ offset-is None n at reg f h b = ap (λ (k : ℕ). leVal (take k (drop at reg))) 
 offset-is Uxtw n at reg f h b = low-bytes 4 n (drop at reg) h (bytes-drop at reg b)
 offset-is Sxtw n at reg f h b = ap signed32 (low-bytes 4 n (drop at reg) h (bytes-drop at reg b))
 
--- ---- a store's elements are its plan's
+-- ---- a store's elements are its access's
 
 element-same : (e a a′ : ℕ) (p : List ℕ) → a ≡ a′
     → _≡_ {A = Element} (record { number = e; address = a; bytes = p }) (record { number = e; address = a′; bytes = p })
@@ -102,7 +103,7 @@ element-same e a a′ p q = λ i. record { number = e; address = q i; bytes = p 
 one-register : (m : Machine) (c : Class) → c .nreg ≡ 1 → c .nreg * perRegister m c ≡ perRegister m c
 one-register m c q = ap (λ (k : ℕ). k * perRegister m c) q ∙ one-mul (perRegister m c)
 
-vector-listed : (m : Machine) (s : Store) (v : VectorPlan) (offsets governing stored : List ℕ) → countOf m s ≡ v .count
+vector-listed : (m : Machine) (s : Store) (v : VectorAccess) (offsets governing stored : List ℕ) → countOf m s ≡ v .count
     → ((e : ℕ) → activeAt m s e ≡ vectorActive v governing e) → ((e : ℕ) → elementAt m s e ≡ vectorElement v offsets stored e)
     → elements m s ≡ vectorElements v offsets governing stored
 unfolding elements vectorElements
@@ -112,16 +113,16 @@ vector-listed m s v offsets governing stored q f g =
     (v .count) 0 (omega arith)
 
 module _ (m : Machine) (f : ScatterFields) (s : ScatterIn f (classFor (Scatter f))) where
-  pub scatter-count : countOf m (Scatter f) ≡ scatterPlan m (classFor (Scatter f)) f .count
+  pub scatter-count : countOf m (Scatter f) ≡ scatterAccess m (classFor (Scatter f)) f .count
   scatter-count = one-register m (classFor (Scatter f)) (s .nreg)
 
-  pub scatter-active : (e : ℕ) → activeAt m (Scatter f) e ≡ vectorActive (scatterPlan m (classFor (Scatter f)) f) (predicate m (f .pg)) e
+  pub scatter-active : (e : ℕ) → activeAt m (Scatter f) e ≡ vectorActive (scatterAccess m (classFor (Scatter f)) f) (predicate m (f .pg)) e
   unfolding activeAt vectorActive
   scatter-active e = refl
 
 module _ (m : Machine) (b : Bytes (m .z)) (f : ScatterFields) (s : ScatterIn f (classFor (Scatter f))) where
   pub scatter-element : (e : ℕ)
-      → elementAt m (Scatter f) e ≡ vectorElement (scatterPlan m (classFor (Scatter f)) f) (vector m (f .zm)) (vector m (f .zt)) e
+      → elementAt m (Scatter f) e ≡ vectorElement (scatterAccess m (classFor (Scatter f)) f) (vector m (f .zm)) (vector m (f .zt)) e
   unfolding elementAt vectorElement vectorAddress
   scatter-element e =
       let c = classFor (Scatter f) in
@@ -131,17 +132,17 @@ module _ (m : Machine) (b : Bytes (m .z)) (f : ScatterFields) (s : ScatterIn f (
       (bytes-take (m .vb) (drop (f .zm * m .vb) (m .z)) (bytes-drop (f .zm * m .vb) (m .z) b))))
 
   pub scatter-elements : elements m (Scatter f)
-      ≡ vectorElements (scatterPlan m (classFor (Scatter f)) f) (vector m (f .zm)) (predicate m (f .pg)) (vector m (f .zt))
+      ≡ vectorElements (scatterAccess m (classFor (Scatter f)) f) (vector m (f .zm)) (predicate m (f .pg)) (vector m (f .zt))
   scatter-elements =
-      vector-listed m (Scatter f) (scatterPlan m (classFor (Scatter f)) f) (vector m (f .zm)) (predicate m (f .pg)) (vector m (f .zt))
+      vector-listed m (Scatter f) (scatterAccess m (classFor (Scatter f)) f) (vector m (f .zm)) (predicate m (f .pg)) (vector m (f .zt))
       (scatter-count m f s) (scatter-active m f s) scatter-element
 
 module _ (m : Machine) (f : QuadwordFields) (s : QuadwordIn f (classFor (Quadword f))) where
-  pub quadword-count : countOf m (Quadword f) ≡ quadwordPlan m (classFor (Quadword f)) f .count
+  pub quadword-count : countOf m (Quadword f) ≡ quadwordAccess m (classFor (Quadword f)) f .count
   quadword-count = one-register m (classFor (Quadword f)) (s .nreg)
 
   pub quadword-active : (e : ℕ)
-      → activeAt m (Quadword f) e ≡ vectorActive (quadwordPlan m (classFor (Quadword f)) f) (predicate m (f .pg)) e
+      → activeAt m (Quadword f) e ≡ vectorActive (quadwordAccess m (classFor (Quadword f)) f) (predicate m (f .pg)) e
   unfolding activeAt vectorActive
   quadword-active e = refl
 
@@ -149,7 +150,7 @@ module _ (m : Machine) (f : QuadwordFields) (s : QuadwordIn f (classFor (Quadwor
   sum a i = omega arith
 
   pub quadword-element : (e : ℕ)
-      → elementAt m (Quadword f) e ≡ vectorElement (quadwordPlan m (classFor (Quadword f)) f) (vector m (f .zn)) (vector m (f .zt)) e
+      → elementAt m (Quadword f) e ≡ vectorElement (quadwordAccess m (classFor (Quadword f)) f) (vector m (f .zn)) (vector m (f .zt)) e
   unfolding elementAt vectorElement vectorAddress
   quadword-element e =
       let c = classFor (Quadword f) in
@@ -160,14 +161,14 @@ module _ (m : Machine) (f : QuadwordFields) (s : QuadwordIn f (classFor (Quadwor
       ∙ ap (λ (n : ℕ). n % 2 ^ 64) (sum (leVal (take 8 (drop (e * stepOf c) reg))) (indexOf m (f .rm))))
 
   pub quadword-elements : elements m (Quadword f)
-      ≡ vectorElements (quadwordPlan m (classFor (Quadword f)) f) (vector m (f .zn)) (predicate m (f .pg)) (vector m (f .zt))
+      ≡ vectorElements (quadwordAccess m (classFor (Quadword f)) f) (vector m (f .zn)) (predicate m (f .pg)) (vector m (f .zt))
   quadword-elements =
-      vector-listed m (Quadword f) (quadwordPlan m (classFor (Quadword f)) f) (vector m (f .zn)) (predicate m (f .pg)) (vector m (f .zt))
+      vector-listed m (Quadword f) (quadwordAccess m (classFor (Quadword f)) f) (vector m (f .zn)) (predicate m (f .pg)) (vector m (f .zt))
       quadword-count quadword-active quadword-element
 
 module _ (m : Machine) (f : StridedFields) (s : StridedIn f (classFor (Strided f))) where
   pub strided-active : (e : ℕ) → e < countOf m (Strided f)
-      → activeAt m (Strided f) e ≡ stridedActive (stridedPlan m (classFor (Strided f)) f) e
+      → activeAt m (Strided f) e ≡ stridedActive (stridedAccess m (classFor (Strided f)) f) e
   unfolding activeAt stridedActive
   strided-active e h =
       let v = counterOf m (f .pc) in
@@ -176,16 +177,16 @@ module _ (m : Machine) (f : StridedFields) (s : StridedIn f (classFor (Strided f
   wrapped : (a d : ℕ) → (a + d) % 2 ^ 64 ≡ (a % 2 ^ 64 + d) % 2 ^ 64
   wrapped a d = omega arith
 
-  pub strided-element : (e : ℕ) → elementAt m (Strided f) e ≡ stridedElement (stridedPlan m (classFor (Strided f)) f) (m .vb) (m .z) e
+  pub strided-element : (e : ℕ) → elementAt m (Strided f) e ≡ stridedElement (stridedAccess m (classFor (Strided f)) f) (m .vb) (m .z) e
   unfolding elementAt stridedElement stridedAddress
   strided-element e =
       let c = classFor (Strided f) in
       element-same e _ _ _ (wrapped (startOf m c (f .rn) (f .rm) (f .multiple)) (e * stepOf c))
 
-  pub strided-elements : elements m (Strided f) ≡ stridedElements (stridedPlan m (classFor (Strided f)) f) (m .vb) (m .z)
+  pub strided-elements : elements m (Strided f) ≡ stridedElements (stridedAccess m (classFor (Strided f)) f) (m .vb) (m .z)
   unfolding elements stridedElements
   strided-elements =
       let c = classFor (Strided f) in
-      let p = stridedPlan m c f in
+      let p = stridedAccess m c f in
       actives-below (activeAt m (Strided f)) (stridedActive p) (elementAt m (Strided f)) (stridedElement p (m .vb) (m .z))
       (c .nreg * perRegister m c) strided-active strided-element (c .nreg * perRegister m c) 0 (omega arith)

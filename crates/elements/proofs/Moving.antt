@@ -7,14 +7,14 @@ use native.Mathlib.Nat.{div-add-mod', div-lt-iff-lt-mul, le-div-iff-mul-le}
 use native.Mathlib.Omega.{arith}
 use lib.ListN.{length, take, drop, length-append, length-take, length-drop}
 use lib.Seq.{take-add, drop-drop}
-use Rattle.writes.specs.Elements.{Element, over}
-use Rattle.writes.proofs.Order.{two}
-use Rattle.writes.proofs.Overlay.{length-over}
-use Rattle.writes.proofs.Parts.{over-join, over-none, over-all}
+use Rattle.writes.specs.Elements.{Element}
+use Rattle.window.specs.Overwriting.{overwritten}
+use Rattle.window.proofs.Order.{two}
+use Rattle.window.proofs.Parts.{length-over, over-join, over-none, over-all}
 use Rattle.elements.specs.Machine.{register}
-use Rattle.elements.specs.Plans.{StridedSound, PartOf, stridedElement, bytesFrom, stridedBytes}
-use Rattle.elements.specs.declared.StridedPlan.{StridedPlan}
-use Rattle.elements.proofs.Planning.{register-in, register-long}
+use Rattle.elements.specs.Accesses.{StridedSound, PartOf, stridedElement, bytesFrom, stridedBytes}
+use Rattle.elements.specs.declared.StridedAccess.{StridedAccess}
+use Rattle.elements.proofs.Numbers.{register-in, register-long}
 
 module _ (el : ℕ → Element) where
   bytes-append : (a b e : ℕ) → bytesFrom el (a + b) e ≡ bytesFrom el a e ++ bytesFrom el b (e + a)
@@ -48,7 +48,7 @@ module _ (el : ℕ → Element) where
 
 -- ---- in one register
 
-module _ (s : StridedPlan) (vb : ℕ) (o : StridedSound s vb) where
+module _ (s : StridedAccess) (vb : ℕ) (o : StridedSound s vb) where
   per-small : s .per ≤ 256
   per-small =
       let w : 0 < s .step = omega (arith, o .wide) in
@@ -57,12 +57,11 @@ module _ (s : StridedPlan) (vb : ℕ) (o : StridedSound s vb) where
   pub high-small : s .high ≤ 1024
   high-small = omega (arith, o .most, mul-le-mul (o .nreg) per-small)
 
+  pub size-small : s .size ≤ 256
+  size-small = omega (arith, le-mul-of-pos-right (s .step) (o .per), mul-comm (s .per) (s .step), o .whole, o .high, o .size)
+
   pub all-small : (s .high - s .low) * s .size ≤ 1024 * 256
-  all-small =
-      let k : s .size ≤ 256 =
-      omega (arith, le-mul-of-pos-right (s .step) (o .per), mul-comm (s .per) (s .step), o .whole, o .high, o .size) in
-      let n : s .high - s .low ≤ 1024 = omega (arith, high-small) in
-      mul-le-mul n k
+  all-small = let n : s .high - s .low ≤ 1024 = omega (arith, high-small) in mul-le-mul n size-small
 
   module _ (r : ℕ) (h : r < s .nreg) where
     pub row-small : (r + 1) * s .per ≤ 1024
@@ -85,8 +84,8 @@ module _ (s : StridedPlan) (vb : ℕ) (o : StridedSound s vb) where
         let u : e / s .per < suc r = div-lt-iff-lt-mul (o .per) .1 (omega (arith, suc-mul r (s .per))) in
         omega arith
 
-    in-place : e % s .per ≡ e - r * s .per
-    in-place = omega (arith, div-add-mod' e (s .per), ap (λ (n : ℕ). n * s .per) in-row)
+    in-it : e % s .per ≡ e - r * s .per
+    in-it = omega (arith, div-add-mod' e (s .per), ap (λ (n : ℕ). n * s .per) in-row)
 
     its-bytes : (z : List ℕ)
         → stridedElement s vb z e .bytes
@@ -94,7 +93,7 @@ module _ (s : StridedPlan) (vb : ℕ) (o : StridedSound s vb) where
     unfolding stridedElement
     its-bytes z =
         ap (λ (n : ℕ). take (s .size) (drop (e % s .per * n) (register vb z (s .first + e / s .per * s .stride)))) (o .packed)
-        ∙ ap₂ (λ (n i : ℕ). take (s .size) (drop (n * s .size) (register vb z (s .first + i * s .stride)))) in-place in-row
+        ∙ ap₂ (λ (n i : ℕ). take (s .size) (drop (n * s .size) (register vb z (s .first + i * s .stride)))) in-it in-row
 
   module _ (z : List ℕ) (r : ℕ) where
     abbrev reg : List ℕ
@@ -159,7 +158,7 @@ module _ (s : StridedPlan) (vb : ℕ) (o : StridedSound s vb) where
 -- ---- register by register
 
 -- active elements below e are copied; r registers are passed
-pub record Copied (s : StridedPlan) (vb : ℕ) (z out : List ℕ) (elements bytes e r : ℕ) : Type 0 where
+pub record Copied (s : StridedAccess) (vb : ℕ) (z out : List ℕ) (elements bytes e r : ℕ) : Type 0 where
   pub rows : r ≤ s .nreg
   pub low : s .low ≤ e
   pub high : e ≤ s .high
@@ -167,7 +166,7 @@ pub record Copied (s : StridedPlan) (vb : ℕ) (z out : List ℕ) (elements byte
   pub counted : elements ≡ e - s .low
   pub weighed : bytes ≡ (e - s .low) * s .size
   pub long : length out ≡ (s .high - s .low) * s .size
-  pub same : over out ((e - s .low) * s .size) (bytesFrom (stridedElement s vb z) (s .high - e) e) ≡ stridedBytes s vb z
+  pub same : overwritten out ((e - s .low) * s .size) (bytesFrom (stridedElement s vb z) (s .high - e) e) ≡ stridedBytes s vb z
 
 up-to : (i e high : ℕ) → e ≤ high → i < e + (high - e) → i < high
 up-to i e high h k = omega arith
@@ -182,7 +181,7 @@ room-for low e high k x y t h j p q =
     sym (add-mul (e - low) (high - e) k) ∙ ap (λ (n : ℕ). n * k) (gap low e high h j) in
     omega arith
 
-module _ (s : StridedPlan) (vb : ℕ) (o : StridedSound s vb) (z : List ℕ) (q : length z ≡ 32 * vb) where
+module _ (s : StridedAccess) (vb : ℕ) (o : StridedSound s vb) (z : List ℕ) (q : length z ≡ 32 * vb) where
   abbrev el : ℕ → Element
   el = stridedElement s vb z
 
@@ -214,7 +213,7 @@ module _ (s : StridedPlan) (vb : ℕ) (o : StridedSound s vb) (z : List ℕ) (q 
   active-long = rest-long (s .low) (o .order)
 
 -- `copy_active`: before its loop, after a turn that copies nothing or a part, and behind the loop
-module _ {s : StridedPlan} {vb : ℕ} (o : StridedSound s vb) (z : List ℕ) (q : length z ≡ 32 * vb) where
+module _ {s : StridedAccess} {vb : ℕ} (o : StridedSound s vb) (z : List ℕ) (q : length z ≡ 32 * vb) where
   pub copied-first : (out : List ℕ) → length out ≡ (s .high - s .low) * s .size → Copied s vb z out 0 0 (s .low) 0
   unfolding stridedBytes
   copied-first out l =
@@ -229,7 +228,7 @@ module _ {s : StridedPlan} {vb : ℕ} (o : StridedSound s vb) (z : List ℕ) (q 
         weighed = sym none;
         long = l;
         same =
-            ap (λ (n : ℕ). over out n (stridedBytes s vb z)) none
+            ap (λ (n : ℕ). overwritten out n (stridedBytes s vb z)) none
             ∙ over-all out (stridedBytes s vb z) (active-long s vb o z q ∙ sym l);
       }
 
@@ -261,7 +260,8 @@ module _ {s : StridedPlan} {vb : ℕ} (o : StridedSound s vb) (z : List ℕ) (q 
           }
 
       pub copied-on : {out′ : List ℕ} {k b : ℕ} → k ≡ elements + (to - e) → b ≡ bytes + (to - e) * s .size
-          → out′ ≡ over out ((e - s .low) * s .size) (bytesFrom (stridedElement s vb z) (to - e) e) → Copied s vb z out′ k b to (r + 1)
+          → out′ ≡ overwritten out ((e - s .low) * s .size) (bytesFrom (stridedElement s vb z) (to - e) e)
+          → Copied s vb z out′ k b to (r + 1)
       copied-on kq bq oq =
           let p = copied-part in
           let n = part-long s vb o r e to p z q in
@@ -286,9 +286,9 @@ module _ {s : StridedPlan} {vb : ℕ} (o : StridedSound s vb) (z : List ℕ) (q 
             weighed = omega (arith, c .weighed);
             long = ap length oq ∙ length-over _ ((e - s .low) * s .size) A (omega arith) ∙ c .long;
             same =
-                ap₂ (λ (x : List ℕ) (y : ℕ). over x y B) oq (sym m ∙ ap (λ (x : ℕ). (e - s .low) * s .size + x) (sym n))
+                ap₂ (λ (x : List ℕ) (y : ℕ). overwritten x y B) oq (sym m ∙ ap (λ (x : ℕ). (e - s .low) * s .size + x) (sym n))
                 ∙ over-join out ((e - s .low) * s .size) A B room
-                ∙ ap (over out ((e - s .low) * s .size)) (sym d)
+                ∙ ap (overwritten out ((e - s .low) * s .size)) (sym d)
                 ∙ c .same;
           }
 
@@ -304,6 +304,6 @@ module _ {s : StridedPlan} {vb : ℕ} (o : StridedSound s vb) (z : List ℕ) (q 
         c .counted ∙ ap (λ (x : ℕ). x - s .low) w,
         c .weighed ∙ ap (λ (x : ℕ). (x - s .low) * s .size) w,
         sym (over-none out ((e - s .low) * s .size))
-            ∙ ap (λ (n : ℕ). over out ((e - s .low) * s .size) (bytesFrom (stridedElement s vb z) n e)) (sym v)
+            ∙ ap (λ (n : ℕ). overwritten out ((e - s .low) * s .size) (bytesFrom (stridedElement s vb z) n e)) (sym v)
             ∙ c .same,
       )

@@ -5,9 +5,9 @@ use Prim.Native.Nat.{ℕ, _+_, _-_, _*_, _/_, _%_, _^_, _≤_, _<_}
 use native.Mathlib.Omega.{arith}
 use lib.Dec.{eqb, ltb, leb}
 use borrow.Author.Tests.{eq-eqb, ne-eqb, lt-ltb, le-ltb, lt-leb, le-leb}
-use Rattle.writes.proofs.Order.{two}
+use Rattle.window.proofs.Order.{two}
 use Rattle.elements.specs.Counter.{lowestSet, unitOf, countIn, maskBit}
-use Rattle.elements.specs.Plans.{borderOf, lowOf, highOf}
+use Rattle.elements.specs.Accesses.{borderOf, lowOf, highOf}
 use Rattle.elements.proofs.Leaves.{at-lowest}
 use Rattle.elements.proofs.Stretches.{unit-whole}
 

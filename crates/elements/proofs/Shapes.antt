@@ -3,10 +3,11 @@
 use mathlib.Core.Path.{_≡_, refl, ap, _∙_, subst}
 use mathlib.Core.Bool.{Bool, true, false, not, cond, _||_}
 use mathlib.Core.List.{List, [], _∷_}
+use mathlib.Core.Logic.{_⊎_, inl, inr}
 use Prim.Native.Nat.{ℕ, zero, suc, _-_, _*_, _/_, _%_, _^_, _≤_, _<_}
 use native.Mathlib.Nat.{mul-le-mul, one-le-pow}
 use native.Mathlib.Omega.{arith}
-use borrow.Author.Tests.{ltb-true, ltb-false}
+use borrow.Author.Tests.{ltb-true, ltb-false, eqb-true}
 use lib.Dec.{T, eqb, ltb, leb, eqb→eq, leb→le, ltb→lt, lit<}
 use lib.IntN.{ℤ, pos, negℤ, natAbs}
 use lib.ListN.{length, getD}
@@ -30,13 +31,18 @@ use Rattle.encoding.proofs.Inverse.{named-parts}
 use Rattle.encoding.proofs.Signed.{multiple-imm, multiple-low, multiple-high}
 use Rattle.encoding.proofs.Statements.{accepted}
 use Rattle.elements.specs.Stores.{stepOf, sizeOf, strideOf}
-use Rattle.elements.specs.Plans.{offsetBytes}
+use Rattle.elements.specs.Accesses.{offsetBytes, otherStep}
 
 -- ---- the classes of a feature
 
 -- what holds of a class: its elements are whole bytes, and what its feature's classes have in common
 shape : Feature → Class → List Bool
-shape SVE c = eqb (stepOf c * 8) (c .esize) ∷ eqb (c .nreg) 1 ∷ leb 4 (stepOf c) ∷ (has c xs || eqb (stepOf c) 8) ∷ []
+shape SVE c =
+    eqb (stepOf c * 8) (c .esize)
+    ∷ eqb (c .nreg) 1
+    ∷ (eqb (stepOf c) 8 || eqb (stepOf c) 4)
+    ∷ (has c xs || eqb (stepOf c) 8)
+    ∷ []
 shape SME2 c =
     eqb (stepOf c * 8) (c .esize)
     ∷ ltb 0 (c .nreg)
@@ -45,7 +51,7 @@ shape SME2 c =
     ∷ eqb (stepOf c) 8
     ∷ eqb (sizeOf c) 8
     ∷ []
-shape SVE2p1 c = eqb (stepOf c * 8) (c .esize) ∷ eqb (c .nreg) 1 ∷ eqb (stepOf c) 16 ∷ []
+shape SVE2p1 c = eqb (stepOf c * 8) (c .esize) ∷ eqb (c .nreg) 1 ∷ eqb (stepOf c) 16 ∷ eqb (sizeOf c) 16 ∷ []
 
 shaped : Class → Bool
 shaped c = every (λ b. b) (shape (c .feature) c)
@@ -92,6 +98,24 @@ fits-step false None n t l u = let q = eqb→eq n 8 u in omega arith
 fits-step false Uxtw n t l u = absurd t
 fits-step false Sxtw n t l u = absurd t
 
+-- 8 or 4
+four-step : (n : ℕ) → (n ≡ 8) ⊎ (n ≡ 4) → 4 ≤ n
+four-step n (inl e) = omega arith
+four-step n (inr e) = omega arith
+
+either-step : (n : ℕ) → T (eqb n 8 || eqb n 4) → (n ≡ 8) ⊎ (n ≡ 4)
+either-step n t = go (eqb n 8) refl t
+  where
+    go : (b : Bool) → eqb n 8 ≡ b → T (b || eqb n 4) → (n ≡ 8) ⊎ (n ≡ 4)
+    go true e u = inl (eqb-true n 8 e)
+    go false e u = inr (eqb→eq n 4 u)
+
+-- by the extension
+step-by : (x : Extension) (n : ℕ) → (x ≡ None → n ≡ 8) → (n ≡ 8) ⊎ (n ≡ 4) → (n ≡ 8) ⊎ (n ≡ otherStep x)
+step-by None n f s = inl (f refl)
+step-by Uxtw n f s = s
+step-by Sxtw n f s = s
+
 whole-step : (h : Bool) (n : ℕ) → T (not (misextends h None)) → T (h || eqb n 8) → n ≡ 8
 whole-step true n t u = absurd t
 whole-step false n t u = eqb→eq n 8 u
@@ -105,19 +129,24 @@ pub record ScatterIn (f : ScatterFields) (c : Class) : Type 0 where
   pub nreg : c .nreg ≡ 1
   pub eight : c .esize / 8 * 8 ≡ c .esize
   pub four : 4 ≤ stepOf c
+  pub eight-or-four : (stepOf c ≡ 8) ⊎ (stepOf c ≡ 4)
+  pub steps : (stepOf c ≡ 8) ⊎ (stepOf c ≡ otherStep (f .extension))
   pub offset : offsetBytes (f .extension) ≤ stepOf c
   pub none : f .extension ≡ None → stepOf c ≡ 8
 
 pub scatter-in : (f : ScatterFields) → refused (Scatter f) ≡ false → ScatterIn f (classFor (Scatter f))
 unfolding shape
-scatter-in f e =
-    let a = accepted (Scatter f) e in
+scatter-in f r₀ =
+    let a = accepted (Scatter f) r₀ in
     let c = classFor (Scatter f) in
     let k = rowFor (Scatter f) in
     let r = number-in c (Scatter f) (a .1) in
     let t = shape-at k (a .0) SVE (row-holds (f .class) SVE (a .0) .1) in
     let x = is-extended c (Scatter f) (a .1) in
-    let l = leb→le 4 (stepOf c) (t 2 (lit< tt)) in
+    let e = either-step (stepOf c) (t 2 (lit< tt)) in
+    let l = four-step (stepOf c) e in
+    let w : f .extension ≡ None → stepOf c ≡ 8 =
+    λ q. whole-step (has c xs) (stepOf c) (subst (λ (y : Extension). T (not (misextends (has c xs) y))) q x) (t 3 (lit< tt)) in
     record {
       zm = r 0 (lit< tt);
       pg = r 1 (lit< tt);
@@ -128,7 +157,9 @@ scatter-in f e =
       nreg = eqb→eq (c .nreg) 1 (t 1 (lit< tt));
       four = l;
       offset = fits-step (has c xs) (f .extension) (stepOf c) x l (t 3 (lit< tt));
-      none = λ q. whole-step (has c xs) (stepOf c) (subst (λ (y : Extension). T (not (misextends (has c xs) y))) q x) (t 3 (lit< tt));
+      eight-or-four = e;
+      steps = step-by (f .extension) (stepOf c) w e;
+      none = w;
     }
 
 pub record QuadwordIn (f : QuadwordFields) (c : Class) : Type 0 where
@@ -140,6 +171,7 @@ pub record QuadwordIn (f : QuadwordFields) (c : Class) : Type 0 where
   pub nreg : c .nreg ≡ 1
   pub eight : c .esize / 8 * 8 ≡ c .esize
   pub sixteen : stepOf c ≡ 16
+  pub whole : sizeOf c ≡ 16
 
 pub quadword-in : (f : QuadwordFields) → refused (Quadword f) ≡ false → QuadwordIn f (classFor (Quadword f))
 unfolding shape
@@ -158,6 +190,7 @@ quadword-in f e =
       eight = eqb→eq (stepOf c * 8) (c .esize) (t 0 (lit< tt));
       nreg = eqb→eq (c .nreg) 1 (t 1 (lit< tt));
       sixteen = eqb→eq (stepOf c) 16 (t 2 (lit< tt));
+      whole = eqb→eq (sizeOf c) 16 (t 3 (lit< tt));
     }
 
 -- imm4's multiples are small

@@ -1,7 +1,8 @@
--- The plan of a store that isn't refused is sound on a machine with registers of vb bytes. Assumes nothing.
+-- The access of a store that isn't refused is sound on a machine with registers of vb bytes. Assumes nothing.
 use mathlib.Core.Path.{_≡_, sym, ap, _∙_, subst}
 use Prim.Native.Nat.{ℕ, zero, suc, _+_, _-_, _*_, _/_, _%_, _≤_, _<_}
 use native.Mathlib.Nat.{div-mul-le-self, le-div-iff-mul-le, suc-mul}
+use mathlib.Core.Logic.{_⊎_, inl, inr}
 use native.Mathlib.Omega.{arith}
 use Rattle.encoding.specs.Classes.{Class}
 use Rattle.encoding.specs.Encoding.{classFor}
@@ -12,8 +13,8 @@ use Rattle.encoding.specs.declared.Store.the-variants.{Scatter, Strided, Quadwo
 use Rattle.elements.specs.Machine.{Machine}
 use Rattle.elements.specs.Counter.{counterOf}
 use Rattle.elements.specs.Stores.{stepOf, perRegister, strideOf}
-use Rattle.elements.specs.Plans.{VectorSound, StridedSound, scatterPlan, quadwordPlan, stridedPlan}
-use Rattle.elements.proofs.Planning.{per-is}
+use Rattle.elements.specs.Accesses.{VectorSound, StridedSound, scatterAccess, quadwordAccess, stridedAccess}
+use Rattle.elements.proofs.Numbers.{per-is}
 use Rattle.elements.proofs.Ranges.{range-order, range-most}
 use Rattle.elements.proofs.Shapes.{ScatterIn, QuadwordIn, StridedIn}
 
@@ -27,15 +28,22 @@ module _ (m : Machine) (c : Class) (e : c .esize / 8 * 8 ≡ c .esize) where
       some : (a b : ℕ) → 1 ≤ b → b ≤ a → 0 < a / b
       some a b h k = le-div-iff-mul-le h .1 (omega arith)
 
+eight-step : (n : ℕ) → (n ≡ 8) ⊎ (n ≡ 4) → 8 ≤ n → n ≡ 8
+eight-step n (inl e) h = e
+eight-step n (inr e) h = absurd (omega arith)
+
 module _ (m : Machine) (low : 16 ≤ m .vb) (high : m .vb ≤ 256) (sixteen : m .vb % 16 ≡ 0) where
   pub scatter-sound : (f : ScatterFields) → ScatterIn f (classFor (Scatter f))
-      → VectorSound (scatterPlan m (classFor (Scatter f)) f) (m .vb)
+      → VectorSound (scatterAccess m (classFor (Scatter f)) f) (m .vb)
   scatter-sound f s =
       record {
         scale = omega (arith, s .small .scale);
         offset = s .offset;
         some = s .small .size .0;
         size = s .small .size .1;
+        steps = s .steps;
+        wide = s .small .step .1;
+        doubleword = λ q. eight-step (stepOf (classFor (Scatter f))) (s .eight-or-four) (omega (arith, s .small .size .1));
         whole = per-whole m (classFor (Scatter f)) (s .eight);
         low = low;
         high = high;
@@ -46,13 +54,16 @@ module _ (m : Machine) (low : 16 ≤ m .vb) (high : m .vb ≤ 256) (sixteen : m 
       }
 
   pub quadword-sound : (f : QuadwordFields) → QuadwordIn f (classFor (Quadword f))
-      → VectorSound (quadwordPlan m (classFor (Quadword f)) f) (m .vb)
+      → VectorSound (quadwordAccess m (classFor (Quadword f)) f) (m .vb)
   quadword-sound f s =
       record {
         scale = omega arith;
         offset = omega (arith, s .sixteen);
         some = s .small .size .0;
         size = s .small .size .1;
+        steps = inr (s .sixteen);
+        wide = s .small .step .1;
+        doubleword = λ q. absurd (omega (arith, s .whole));
         whole = per-whole m (classFor (Quadword f)) (s .eight);
         low = low;
         high = high;
@@ -63,7 +74,7 @@ module _ (m : Machine) (low : 16 ≤ m .vb) (high : m .vb ≤ 256) (sixteen : m 
       }
 
   pub strided-sound : (f : StridedFields) → StridedIn f (classFor (Strided f))
-      → StridedSound (stridedPlan m (classFor (Strided f)) f) (m .vb)
+      → StridedSound (stridedAccess m (classFor (Strided f)) f) (m .vb)
   strided-sound f s =
       let c = classFor (Strided f) in
       record {

@@ -10,9 +10,9 @@ use native.Mathlib.Omega.{arith}
 use borrow.Author.Tests.{eq-eqb, ltb-false, leb-true, leb-false, le-ltb}
 use lib.Dec.{eqb, ltb, leb}
 use lib.ListN.{length}
-use Rattle.writes.specs.LittleEndian.{Bytes}
+use Rattle.window.specs.LittleEndian.{Bytes}
 use Rattle.writes.specs.Elements.{Element, InWindow}
-use Rattle.writes.proofs.Order.{three}
+use Rattle.window.proofs.Order.{three}
 use Rattle.writes.proofs.Counting.{starts, OfSize}
 use Rattle.elements.specs.Counter.{unitOf, countIn, maskBit}
 use Rattle.elements.specs.Elements.{actives}

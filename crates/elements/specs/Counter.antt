@@ -3,14 +3,14 @@ use Prim.Native.Nat.{ℕ, _+_, _/_, _%_, _^_}
 use mathlib.Core.Bool.{Bool, not, cond, _&&_}
 use lib.Dec.{eqb, ltb, leb}
 use lib.ListN.{take}
-use Rattle.writes.specs.LittleEndian.{leVal}
+use Rattle.window.specs.LittleEndian.{leVal}
 use Rattle.elements.specs.Machine.{Machine, predicate}
 
 -- "Classes 8 to 11 use P register 8 + Pc as a counter." A counter is its register's low 16 bits.
 abbrev pub counterOf : Machine → ℕ → ℕ
 counterOf m pc = leVal (take 2 (predicate m (8 + pc)))
 
--- "Its low four bits choose the counter's element size: xxx1 is 8, xx10 is 16, x100 is 32, 1000 is 64": the place of the lowest set
+-- "Its low four bits choose the counter's element size: xxx1 is 8, xx10 is 16, x100 is 32, 1000 is 64": the index of the lowest set
 -- bit, by which the size is 8 times a power of two
 unfoldable pub lowestSet : ℕ → ℕ
 lowestSet v = cond (eqb (v % 2) 1) 0 (cond (eqb (v % 4) 2) 1 (cond (eqb (v % 8) 4) 2 3))

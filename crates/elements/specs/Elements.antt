@@ -7,7 +7,7 @@ use Rattle.encoding.specs.Encoding.{classFor}
 use Rattle.encoding.specs.declared.Store.{Store}
 use Rattle.writes.specs.Elements.{Element}
 use Rattle.elements.specs.Machine.{Machine, vector}
-use Rattle.elements.specs.Stores.{sizeOf, countOf, activeIn, addressIn, registerIn, placeIn}
+use Rattle.elements.specs.Stores.{sizeOf, countOf, activeIn, addressIn, registerIn, indexIn}
 
 unfoldable pub activeAt : Machine → Store → ℕ → Bool
 activeAt m s e = activeIn m (classFor s) s e
@@ -19,7 +19,7 @@ elementAt m s e =
     record {
       number = e;
       address = addressIn m (classFor s) s e;
-      bytes = take (sizeOf (classFor s)) (drop (placeIn m (classFor s) s e) (vector m (registerIn m (classFor s) s e)));
+      bytes = take (sizeOf (classFor s)) (drop (indexIn m (classFor s) s e) (vector m (registerIn m (classFor s) s e)));
     }
 
 -- of the n elements from number e on, those that are on, "in ascending element number"

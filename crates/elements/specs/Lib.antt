@@ -4,4 +4,4 @@ pub mod Counter
 pub mod Stores
 pub mod Elements
 -- ---- what serves the contracts of the code's own functions
-pub mod Plans
+pub mod Accesses

@@ -14,7 +14,7 @@ use Rattle.encoding.specs.declared.Extension.{Extension}
 use Rattle.encoding.specs.declared.Extension.the-variants.{None, Uxtw, Sxtw}
 use Rattle.encoding.specs.declared.Store.{Store}
 use Rattle.encoding.specs.declared.Store.the-variants.{Scatter, Strided, Quadword}
-use Rattle.writes.specs.LittleEndian.{leVal}
+use Rattle.window.specs.LittleEndian.{leVal}
 use Rattle.elements.specs.Machine.{Machine, baseOf, indexOf, vector, predicate, bitAt}
 use Rattle.elements.specs.Counter.{counterOf, maskBit}
 
@@ -80,7 +80,7 @@ registerIn m c (Scatter f) e = f .zt
 registerIn m c (Strided f) e = f .first + e / perRegister m c * strideOf c
 registerIn m c (Quadword f) e = f .zt
 
-abbrev pub placeIn : Machine → Class → Store → ℕ → ℕ
-placeIn m c (Scatter f) e = e * stepOf c
-placeIn m c (Strided f) e = e % perRegister m c * stepOf c
-placeIn m c (Quadword f) e = e * stepOf c
+abbrev pub indexIn : Machine → Class → Store → ℕ → ℕ
+indexIn m c (Scatter f) e = e * stepOf c
+indexIn m c (Strided f) e = e % perRegister m c * stepOf c
+indexIn m c (Quadword f) e = e * stepOf c

@@ -1,4 +1,5 @@
-// The elements of a store on a lent machine. A store's numbers are decided once, in a plan; its elements are then read by number.
+// The elements of a store on a lent machine. What a store's elements have in common is decided once, in an
+// access; they are then read by number.
 ghost use mathlib.Core.Path.{_≡_};
 ghost use mathlib.Core.Bool.{false, cond};
 ghost use mathlib.Core.List.{[]};
@@ -13,11 +14,11 @@ ghost use Rattle.encoding.specs.Layouts.{layoutOf};
 ghost use Rattle.elements.specs.Machine.{machine, register, bitAt};
 ghost use Rattle.elements.specs.Counter.{counterOf, lowestSet, countIn};
 ghost use Rattle.elements.specs.Stores.{signed32, startOf};
-ghost use Rattle.elements.specs.Plans.{scatterPlan, quadwordPlan, stridedPlan, PartOf, StridedSound};
-ghost use Rattle.elements.specs.Plans.{offsetBytes, offsetFrom, addressFrom, vectorAddress, vectorActive};
-ghost use Rattle.elements.specs.Plans.{borderOf, lowOf, highOf, stridedAddress, stridedActive, stridedElement};
-ghost use Rattle.elements.specs.Plans.{bytesFrom, stridedBytes};
-ghost use Rattle.writes.specs.Elements.{over};
+ghost use Rattle.elements.specs.Accesses.{scatterAccess, quadwordAccess, stridedAccess, PartOf, StridedSound};
+ghost use Rattle.elements.specs.Accesses.{offsetBytes, offsetFrom, addressFrom, vectorAddress, vectorActive};
+ghost use Rattle.elements.specs.Accesses.{borderOf, lowOf, highOf, stridedAddress, stridedActive, stridedElement};
+ghost use Rattle.elements.specs.Accesses.{bytesFrom, stridedBytes};
+ghost use Rattle.window.specs.Overwriting.{overwritten};
 use encoding::Extension;
 use encoding::Layout;
 use encoding::QuadwordFields;
@@ -29,7 +30,7 @@ use encoding::complement::bits_of;
 // A scatter or quadword store: offset and base of each address, bytes from element to element, bytes to move, the elements' number,
 // and the registers with the offsets, the predicate and the data. The one-byte field comes first, where a refusal's tag lies in
 // `Checked`: eight bytes there would be stored in pieces and read late.
-pub struct VectorPlan {
+pub struct VectorAccess {
     pub extension: Extension,
     pub scale: u32,
     pub base: u64,
@@ -43,7 +44,7 @@ pub struct VectorPlan {
 
 // A strided store: its first address, its active elements, from `low` up to `high`, bytes from element to element, bytes to move,
 // elements a register, and its registers: the first, their number, and the distance from one to the next.
-pub struct StridedPlan {
+pub struct StridedAccess {
     pub start: u64,
     pub low: usize,
     pub high: usize,
@@ -61,8 +62,8 @@ pub struct Range {
     pub high: usize,
 }
 
-// Elements and bytes that were copied.
-pub struct Moved {
+// Elements and bytes, counted where they are written.
+pub struct Counts {
     pub elements: u64,
     pub bytes: u64,
 }
@@ -72,7 +73,7 @@ pub fn bit(s: &[u8], i: usize) -> bool
     requires { ⌜ i / 8 < length (now s) ⌝ }
     ensures { λ r. ⌜ r ≡ bitAt (now (s .entry)) i ⌝ }
 {
-    let b = writes::wide(s[i / 8]);
+    let b = window::wide(s[i / 8]);
     (b >> (i % 8)) % 2 == 1
 }
 
@@ -120,9 +121,9 @@ fn offset(extension: Extension, reg: &[u8], at: usize) -> u64
     ensures { λ r. ⌜ r ≡ offsetFrom extension (now (reg .entry)) at ⌝ }
 {
     match extension {
-        Extension::None => writes::le64(reg, at),
-        Extension::Uxtw => writes::le32(reg, at),
-        Extension::Sxtw => extended(writes::le32(reg, at)),
+        Extension::None => window::le64(reg, at),
+        Extension::Uxtw => window::le32(reg, at),
+        Extension::Sxtw => extended(window::le32(reg, at)),
     }
 }
 
@@ -137,7 +138,7 @@ pub fn address_from(base: u64, extension: Extension, scale: u32, offsets: &[u8],
 }
 
 // The address of element e of a scatter or quadword store.
-pub fn vector_address(v: VectorPlan, offsets: &[u8], e: usize) -> u64
+pub fn vector_address(v: VectorAccess, offsets: &[u8], e: usize) -> u64
     requires { ⌜ e * v .step + offsetBytes (v .extension) ≤ length (now offsets) ⌝ }
     requires { ⌜ v .scale < 64 ⌝ }
     ensures { λ r. ⌜ r ≡ vectorAddress v (now (offsets .entry)) e ⌝ }
@@ -147,7 +148,7 @@ pub fn vector_address(v: VectorPlan, offsets: &[u8], e: usize) -> u64
 }
 
 // Whether element e of a scatter or quadword store is active.
-pub fn vector_active(v: VectorPlan, governing: &[u8], e: usize) -> bool
+pub fn vector_active(v: VectorAccess, governing: &[u8], e: usize) -> bool
     requires { ⌜ e * v .step / 8 < length (now governing) ⌝ }
     requires { ⌜ e * v .step < 0x10000 ⌝ }
     ensures { λ r. ⌜ r ≡ vectorActive v (now (governing .entry)) e ⌝ }
@@ -160,10 +161,10 @@ fn counter_of(p: &[u8], vb: usize, pc: u8) -> u64
     requires { ⌜ (pc < 8) × (16 ≤ vb) × (vb ≤ 256) × (length (now p) ≡ 2 * vb) ⌝ }
     ensures { λ r. ⌜ r ≡ counterOf (machine vb [] 0 [] (now (p .entry))) pc ⌝ }
 {
-    writes::le16(register_of(p, vb / 8, 8 + pc as usize), 0)
+    window::le16(register_of(p, vb / 8, 8 + pc as usize), 0)
 }
 
-// The place of a counter's lowest set bit among its low four.
+// The index of a counter's lowest set bit among its low four.
 pub fn lowest_set(v: u64) -> u32
     ensures { λ r. ⌜ (r ≡ lowestSet v) × (r < 4) ⌝ }
 {
@@ -179,7 +180,7 @@ pub fn lowest_set(v: u64) -> u32
     3
 }
 
-// A counter's count, with the place of its lowest set bit.
+// A counter's count, with the index of its lowest set bit.
 pub fn counted(v: u64, shift: u32) -> u64
     requires { ⌜ (shift ≡ lowestSet v) × (shift < 4) ⌝ }
     ensures { λ r. ⌜ r ≡ countIn v ⌝ }
@@ -222,14 +223,14 @@ fn range_of(v: u64, border: usize, n: usize) -> Range
 }
 
 // Whether element e of a strided store is active.
-pub fn strided_active(s: StridedPlan, e: usize) -> bool
+pub fn strided_active(s: StridedAccess, e: usize) -> bool
     ensures { λ r. ⌜ r ≡ stridedActive s e ⌝ }
 {
     (s.low <= e) & (e < s.high)
 }
 
 // The address of element e of a strided store.
-pub fn strided_address(s: StridedPlan, e: usize) -> u64
+pub fn strided_address(s: StridedAccess, e: usize) -> u64
     requires { ⌜ e * s .step < 0x10000 ⌝ }
     ensures { λ r. ⌜ r ≡ stridedAddress s e ⌝ }
 {
@@ -245,15 +246,15 @@ pub fn displaced(base: u64, z: i64, unit: usize) -> u64
     std::num::wrapping_add_u64(base, bits_of(d))
 }
 
-pub fn scatter_plan(f: ScatterFields, vb: usize, x: &[u64; 31], sp: u64) -> VectorPlan
+pub fn scatter_access(f: ScatterFields, vb: usize, x: &[u64; 31], sp: u64) -> VectorAccess
     requires { ⌜ (refused (Store.Scatter f) ≡ false) × (vb ≤ 256) ⌝ }
-    ensures { λ r. ⌜ r ≡ scatterPlan (machine vb (now (x .entry)) sp [] []) (classFor (Store.Scatter f)) f ⌝ }
+    ensures { λ r. ⌜ r ≡ scatterAccess (machine vb (now (x .entry)) sp [] []) (classFor (Store.Scatter f)) f ⌝ }
 {
     let layout = encoding::layout_for(f.class);
     let base = general(x, sp, f.rn);
     let extension = f.extension;
     let step = layout.step as usize;
-    VectorPlan {
+    VectorAccess {
         base,
         extension,
         scale: layout.scale,
@@ -266,14 +267,14 @@ pub fn scatter_plan(f: ScatterFields, vb: usize, x: &[u64; 31], sp: u64) -> Vect
     }
 }
 
-pub fn quadword_plan(f: QuadwordFields, vb: usize, x: &[u64; 31]) -> VectorPlan
+pub fn quadword_access(f: QuadwordFields, vb: usize, x: &[u64; 31]) -> VectorAccess
     requires { ⌜ (refused (Store.Quadword f) ≡ false) × (vb ≤ 256) ⌝ }
-    ensures { λ r. ⌜ r ≡ quadwordPlan (machine vb (now (x .entry)) 0 [] []) (classFor (Store.Quadword f)) f ⌝ }
+    ensures { λ r. ⌜ r ≡ quadwordAccess (machine vb (now (x .entry)) 0 [] []) (classFor (Store.Quadword f)) f ⌝ }
 {
     let layout = encoding::layout_for(f.class);
     let base = general(x, 0, f.rm);
     let quadword = layout.step as usize;
-    VectorPlan {
+    VectorAccess {
         base,
         extension: Extension::None,
         scale: 0,
@@ -311,10 +312,16 @@ fn stride_of(nreg: u32) -> usize
     4
 }
 
-pub fn strided_plan(f: StridedFields, vb: usize, x: &[u64; 31], sp: u64, p: &[u8]) -> StridedPlan
+pub fn strided_access(
+    f: StridedFields,
+    vb: usize,
+    x: &[u64; 31],
+    sp: u64,
+    p: &[u8],
+) -> StridedAccess
     requires { ⌜ refused (Store.Strided f) ≡ false ⌝ }
     requires { ⌜ (16 ≤ vb) × (vb ≤ 256) × (length (now p) ≡ 2 * vb) ⌝ }
-    ensures { λ r. ⌜ r ≡ stridedPlan (machine vb (now (x .entry)) sp [] (now (p .entry))) (classFor (Store.Strided f)) f ⌝ }
+    ensures { λ r. ⌜ r ≡ stridedAccess (machine vb (now (x .entry)) sp [] (now (p .entry))) (classFor (Store.Strided f)) f ⌝ }
 {
     let layout = encoding::layout_for(f.class);
     let start = start_of(f, layout, vb, x, sp);
@@ -324,7 +331,7 @@ pub fn strided_plan(f: StridedFields, vb: usize, x: &[u64; 31], sp: u64, p: &[u8
     let nreg = layout.nreg as usize;
     let range = range_of(counter, border, nreg * per);
     let stride = stride_of(layout.nreg);
-    StridedPlan {
+    StridedAccess {
         start,
         low: range.low,
         high: range.high,
@@ -338,7 +345,7 @@ pub fn strided_plan(f: StridedFields, vb: usize, x: &[u64; 31], sp: u64, p: &[u8
 }
 
 // The bytes of register r of a strided store.
-fn row_of(s: StridedPlan, vb: usize, z: &[u8], r: usize) -> &[u8]
+fn row_of(s: StridedAccess, vb: usize, z: &[u8], r: usize) -> &[u8]
     requires { ⌜ StridedSound s vb ⌝ }
     requires { ⌜ length (now z) ≡ 32 * vb ⌝ }
     requires { ⌜ r < s .nreg ⌝ }
@@ -347,15 +354,56 @@ fn row_of(s: StridedPlan, vb: usize, z: &[u8], r: usize) -> &[u8]
     register_of(z, vb, s.first + r * s.stride)
 }
 
-// Copies elements e up to `to`, which are active and of register r, to their place among the active elements' bytes.
-fn copy_part(s: StridedPlan, vb: usize, z: &[u8], r: usize, e: usize, to: usize, out: &mut [u8])
+// Copies n elements of `size` bytes each into a slice of their length, each of them to its part of it, and counts them.
+fn copy_each(dst: &mut [u8], src: &[u8], n: usize, size: usize) -> Counts
+    requires { ⌜ (length (now dst) ≡ n * size) × (length (now src) ≡ n * size) × (n ≤ 1024) × (size ≤ 256) ⌝ }
+    ensures { λ r. ⌜ (r .elements ≡ n) × (r .bytes ≡ n * size) ⌝ }
+    ensures { λ _. ⌜ now (dst .exit) ≡ now (src .entry) ⌝ }
+{
+    let mut elements: u64 = 0;
+    let mut bytes: u64 = 0;
+    let mut e: usize = 0;
+    while e < n {
+        let at = e * size;
+        let to = at + size;
+        window::copy(&mut dst[at..to], &src[at..to]);
+        elements += 1;
+        bytes += size as u64;
+        e += 1;
+    }
+    Counts { elements, bytes }
+}
+
+// The same with a constant for the size, so that the compiler makes a loop of its own for it.
+fn copy_elements(dst: &mut [u8], src: &[u8], n: usize, size: usize) -> Counts
+    requires { ⌜ (length (now dst) ≡ n * size) × (length (now src) ≡ n * size) × (n ≤ 1024) × (size ≤ 256) ⌝ }
+    ensures { λ r. ⌜ (r .elements ≡ n) × (r .bytes ≡ n * size) ⌝ }
+    ensures { λ _. ⌜ now (dst .exit) ≡ now (src .entry) ⌝ }
+{
+    if size == 8 {
+        return copy_each(dst, src, n, 8);
+    }
+    copy_each(dst, src, n, size)
+}
+
+// Copies elements e up to `to`, which are active and of register r, to their index among the active elements' bytes, and counts them.
+fn copy_part(
+    s: StridedAccess,
+    vb: usize,
+    z: &[u8],
+    r: usize,
+    e: usize,
+    to: usize,
+    out: &mut [u8],
+) -> Counts
     requires { ⌜ StridedSound s vb ⌝ }
     requires { ⌜ length (now z) ≡ 32 * vb ⌝ }
     requires { ⌜ PartOf s r e to ⌝ }
     requires { ⌜ length (now out) ≡ (s .high - s .low) * s .size ⌝ }
+    ensures { λ r. ⌜ (r .elements ≡ to - e) × (r .bytes ≡ (to - e) * s .size) ⌝ }
     ensures { λ _.
         ⌜ now (out .exit)
-        ≡ over (now (out .entry)) ((e - s .low) * s .size) (bytesFrom (stridedElement s vb (now (z .entry))) (to - e) e) ⌝ }
+        ≡ overwritten (now (out .entry)) ((e - s .low) * s .size) (bytesFrom (stridedElement s vb (now (z .entry))) (to - e) e) ⌝ }
 {
     let n = (to - e) * s.size;
     let from = (e - r * s.per) * s.step;
@@ -363,11 +411,11 @@ fn copy_part(s: StridedPlan, vb: usize, z: &[u8], r: usize, e: usize, to: usize,
     let at = (e - s.low) * s.size;
     let until = at + n;
     let reg = row_of(s, vb, z, r);
-    writes::copy(&mut out[at..until], &reg[from..end]);
+    copy_elements(&mut out[at..until], &reg[from..end], to - e, s.size)
 }
 
 // Copies the active elements' bytes, one register after the other, and counts them.
-pub fn copy_active(s: StridedPlan, vb: usize, z: &[u8], out: &mut [u8]) -> Moved
+pub fn copy_active(s: StridedAccess, vb: usize, z: &[u8], out: &mut [u8]) -> Counts
     requires { ⌜ StridedSound s vb ⌝ }
     requires { ⌜ length (now z) ≡ 32 * vb ⌝ }
     requires { ⌜ length (now out) ≡ (s .high - s .low) * s .size ⌝ }
@@ -376,7 +424,6 @@ pub fn copy_active(s: StridedPlan, vb: usize, z: &[u8], out: &mut [u8]) -> Moved
     ensures { λ _. ⌜ now (out .exit) ≡ stridedBytes s vb (now (z .entry)) ⌝ }
 {
     let nreg = s.nreg;
-    let size = s.size;
     let mut elements: u64 = 0;
     let mut bytes: u64 = 0;
     let mut e = s.low;
@@ -387,11 +434,11 @@ pub fn copy_active(s: StridedPlan, vb: usize, z: &[u8], out: &mut [u8]) -> Moved
             r += 1;
             continue;
         }
-        copy_part(s, vb, z, r, e, to, out);
-        elements += (to - e) as u64;
-        bytes += ((to - e) * size) as u64;
+        let counts = copy_part(s, vb, z, r, e, to, out);
+        elements += counts.elements;
+        bytes += counts.bytes;
         e = to;
         r += 1;
     }
-    Moved { elements, bytes }
+    Counts { elements, bytes }
 }

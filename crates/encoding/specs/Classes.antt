@@ -106,11 +106,11 @@ classes =
 abbrev pub noClass : Class
 noClass = class 0 0 [] 0 0 0 0 SVE
 
--- the class at this place of the list, counted from 0
+-- the class in this row of the list, counted from 0
 unfoldable pub classAt : ℕ → Class
 classAt k = getD classes k noClass
 
--- the place of the first class that passes the test; the list's length where none does
+-- the row of the first class that passes the test; the list's length where none does
 unfoldable pub position : (Class → Bool) → List Class → ℕ
 position p [] = 0
 position p (c ∷ cs) = cond (p c) 0 (suc (position p cs))

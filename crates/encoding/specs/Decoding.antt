@@ -60,7 +60,7 @@ storeAs SVE2p1 c w =
 unfoldable pub storeOf : Class → ℕ → Store
 storeOf c w = storeAs (c .feature) c w
 
--- the place in the list of the class that the word belongs to; the list's length where it belongs to none
+-- the row in the list of the class that the word belongs to; the list's length where it belongs to none
 unfoldable pub indexOf : ℕ → ℕ
 indexOf w = position (λ c. belongs c w) classes
 

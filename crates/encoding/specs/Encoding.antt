@@ -30,7 +30,7 @@ featureOf (Scatter f) = SVE
 featureOf (Strided f) = SME2
 featureOf (Quadword f) = SVE2p1
 
--- the place in the list of the class with this number, if its feature is x; the list's length where there is none
+-- the row in the list of the class with this number, if its feature is x; the list's length where there is none
 unfoldable pub rowOf : ℕ → Feature → ℕ
 rowOf n x = position (λ c. eqb (c .number) n && eqb (flag (c .feature)) (flag x)) classes
 
@@ -41,7 +41,7 @@ rowFor s = rowOf (numberOf s) (featureOf s)
 abbrev pub classFor : Store → Class
 classFor s = classAt (rowFor s)
 
--- the place of the class with this number, whatever its feature
+-- the row of the class with this number, whatever its feature
 unfoldable pub rowNumbered : ℕ → ℕ
 rowNumbered n = position (λ c. eqb (c .number) n) classes
 

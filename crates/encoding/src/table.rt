@@ -44,7 +44,7 @@ const PACKED: [u64; CLASSES] = [
     0x2_1_0_5_0_0_4_4_0_0C,
 ];
 
-// The place in the table of the class that the word belongs to; CLASSES where it belongs to none.
+// The row in the table of the class that the word belongs to; CLASSES where it belongs to none.
 pub(crate) fn index_of(word: u32) -> usize
     ensures { λ r. ⌜ r ≡ indexOf word ⌝ }
 {
@@ -141,7 +141,7 @@ pub(crate) fn layout_of(k: usize) -> Layout
     }
 }
 
-// The place of the class with this number; CLASSES where there is none.
+// The row of the class with this number; CLASSES where there is none.
 pub(crate) fn row_numbered(class: u8) -> usize
     ensures { λ r. ⌜ r ≡ rowNumbered class ⌝ }
 {
@@ -162,7 +162,7 @@ fn flag_of(feature: Feature) -> u32
     }
 }
 
-// The place of the class with this number, if it needs this feature; CLASSES where there is none.
+// The row of the class with this number, if it needs this feature; CLASSES where there is none.
 pub(crate) fn row_of(class: u8, feature: Feature) -> usize
     ensures { λ r. ⌜ r ≡ rowOf class feature ⌝ }
 {

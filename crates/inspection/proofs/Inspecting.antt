@@ -1,4 +1,4 @@
--- An element of a store as its plan's, and the refusals in their order. Assumes nothing.
+-- An element of a store as its access's, and the refusals in their order. Assumes nothing.
 use mathlib.Core.Path.{_≡_, refl, sym, ap, ap₂, _∙_}
 use mathlib.Core.Bool.{Bool, true, false, not, cond, _&&_}
 use mathlib.Core.List.{List}
@@ -13,33 +13,33 @@ use Rattle.encoding.specs.declared.ScatterFields.{ScatterFields}
 use Rattle.encoding.specs.declared.StridedFields.{StridedFields}
 use Rattle.encoding.specs.declared.QuadwordFields.{QuadwordFields}
 use Rattle.encoding.specs.declared.Store.the-variants.{Scatter, Strided, Quadword}
-use Rattle.writes.specs.LittleEndian.{Bytes}
+use Rattle.window.specs.LittleEndian.{Bytes}
 use Rattle.writes.specs.Elements as W
-use Rattle.writes.proofs.Order.{two}
+use Rattle.window.proofs.Order.{two}
 use Rattle.elements.specs.Machine.{Machine, register}
 use Rattle.elements.specs.Stores.{countOf}
-use Rattle.elements.specs.Plans.{vectorActive, vectorAddress, vectorElement, stridedActive, stridedAddress, stridedElement}
-use Rattle.elements.specs.Plans.{scatterPlan, quadwordPlan, stridedPlan}
-use Rattle.elements.specs.declared.VectorPlan.{VectorPlan}
-use Rattle.elements.specs.declared.StridedPlan.{StridedPlan}
+use Rattle.elements.specs.Accesses.{vectorActive, vectorAddress, vectorElement, stridedActive, stridedAddress, stridedElement}
+use Rattle.elements.specs.Accesses.{scatterAccess, quadwordAccess, stridedAccess}
+use Rattle.elements.specs.declared.VectorAccess.{VectorAccess}
+use Rattle.elements.specs.declared.StridedAccess.{StridedAccess}
 use Rattle.elements.proofs.Shapes.{ScatterIn, QuadwordIn, StridedIn}
 use Rattle.elements.proofs.Listing.{scatter-count, scatter-active, scatter-element, quadword-count, quadword-active, quadword-element}
 use Rattle.elements.proofs.Listing.{strided-active, strided-element}
-use Rattle.checks.specs.Verdicts.{lengthOk, registersOk}
+use Rattle.verdicts.specs.Verdicts.{lengthOk, registersOk}
 use Rattle.inspection.specs.Inspection.{counted, inspectedAt, inspectedFor, inspectedOf}
 use Rattle.inspection.specs.Steps.{vectorInspected, stridedInspected}
 use Rattle.inspection.specs.declared.Inspected.the-variants.{Length, Registers, Past, Element}
 
--- ---- an element of a plan, by its count
+-- ---- an element of an access, by its count
 
-past : (e n : ℕ) (active : Bool) (address place size : ℕ) → n ≤ e → Past n ≡ counted e n active address place size
-past e n active address place size h = sym (ap (λ (b : Bool). cond b (Element active address place size n) (Past n)) (le-ltb e n h))
+past : (e n : ℕ) (active : Bool) (address index size : ℕ) → n ≤ e → Past n ≡ counted e n active address index size
+past e n active address index size h = sym (ap (λ (b : Bool). cond b (Element active address index size n) (Past n)) (le-ltb e n h))
 
-found : (e n : ℕ) (active : Bool) (address place size : ℕ) → e < n
-    → Element active address place size n ≡ counted e n active address place size
-found e n active address place size h = sym (ap (λ (b : Bool). cond b (Element active address place size n) (Past n)) (lt-ltb e n h))
+found : (e n : ℕ) (active : Bool) (address index size : ℕ) → e < n
+    → Element active address index size n ≡ counted e n active address index size
+found e n active address index size h = sym (ap (λ (b : Bool). cond b (Element active address index size n) (Past n)) (lt-ltb e n h))
 
-module _ (v : VectorPlan) (vb : ℕ) (z p : List ℕ) (e : ℕ) where
+module _ (v : VectorAccess) (vb : ℕ) (z p : List ℕ) (e : ℕ) where
   pub vector-past : v .count ≤ e → Past (v .count) ≡ vectorInspected v vb z p e
   unfolding vectorInspected
   vector-past h = past e (v .count) _ _ _ _ h
@@ -53,45 +53,45 @@ module _ (v : VectorPlan) (vb : ℕ) (z p : List ℕ) (e : ℕ) where
       (r ∙ ap (λ (y : List ℕ). vectorActive v y e) qg) (s ∙ ap (λ (y : List ℕ). vectorAddress v y e) qo)
       ∙ found e (v .count) _ _ _ _ h
 
-module _ (s : StridedPlan) (vb e : ℕ) where
+module _ (s : StridedAccess) (vb e : ℕ) where
   -- the element's first byte in the Z buffer
-  abbrev place : ℕ
-  place = (s .first + e / s .per * s .stride) * vb + e % s .per * s .step
+  abbrev index : ℕ
+  index = (s .first + e / s .per * s .stride) * vb + e % s .per * s .step
 
   pub strided-past : s .nreg * s .per ≤ e → Past (s .nreg * s .per) ≡ stridedInspected s vb e
   unfolding stridedInspected
   strided-past h = past e (s .nreg * s .per) _ _ _ _ h
 
   pub strided-found : (active : Bool) (address : ℕ) → e < s .nreg * s .per → active ≡ stridedActive s e → address ≡ stridedAddress s e
-      → Element active address place (s .size) (s .nreg * s .per) ≡ stridedInspected s vb e
+      → Element active address index (s .size) (s .nreg * s .per) ≡ stridedInspected s vb e
   unfolding stridedInspected
   strided-found active address h r q =
-      ap₂ (λ (b : Bool) (a : ℕ). Element b a place (s .size) (s .nreg * s .per)) r q
+      ap₂ (λ (b : Bool) (a : ℕ). Element b a index (s .size) (s .nreg * s .per)) r q
       ∙ found e (s .nreg * s .per) _ _ _ _ h
 
--- ---- a store's element is its plan's
+-- ---- a store's element is its access's
 
-counted-same : (e : ℕ) {n n′ a a′ : ℕ} {b b′ : Bool} (place size : ℕ) → n ≡ n′ → b ≡ b′ → a ≡ a′
-    → counted e n b a place size ≡ counted e n′ b′ a′ place size
-counted-same e place size q r s = λ i. counted e (q i) (r i) (s i) place size
+counted-same : (e : ℕ) {n n′ a a′ : ℕ} {b b′ : Bool} (index size : ℕ) → n ≡ n′ → b ≡ b′ → a ≡ a′
+    → counted e n b a index size ≡ counted e n′ b′ a′ index size
+counted-same e index size q r s = λ i. counted e (q i) (r i) (s i) index size
 
 module _ (m : Machine) (e : ℕ) where
   pub scatter-inspected : (f : ScatterFields) → ScatterIn f (classFor (Scatter f)) → Bytes (m .z)
-      → vectorInspected (scatterPlan m (classFor (Scatter f)) f) (m .vb) (m .z) (m .p) e ≡ inspectedAt m (Scatter f) e
+      → vectorInspected (scatterAccess m (classFor (Scatter f)) f) (m .vb) (m .z) (m .p) e ≡ inspectedAt m (Scatter f) e
   unfolding inspectedAt vectorInspected vectorElement
   scatter-inspected f s b =
       let a = ap (λ (y : W.Element). y .address) (scatter-element m b f s e) in
       sym (counted-same e _ _ (scatter-count m f s) (scatter-active m f s e) a)
 
   pub quadword-inspected : (f : QuadwordFields) → QuadwordIn f (classFor (Quadword f))
-      → vectorInspected (quadwordPlan m (classFor (Quadword f)) f) (m .vb) (m .z) (m .p) e ≡ inspectedAt m (Quadword f) e
+      → vectorInspected (quadwordAccess m (classFor (Quadword f)) f) (m .vb) (m .z) (m .p) e ≡ inspectedAt m (Quadword f) e
   unfolding inspectedAt vectorInspected vectorElement
   quadword-inspected f s =
       let a = ap (λ (y : W.Element). y .address) (quadword-element m f s e) in
       sym (counted-same e _ _ (quadword-count m f s) (quadword-active m f s e) a)
 
   pub strided-inspected : (f : StridedFields) → StridedIn f (classFor (Strided f))
-      → stridedInspected (stridedPlan m (classFor (Strided f)) f) (m .vb) e ≡ inspectedAt m (Strided f) e
+      → stridedInspected (stridedAccess m (classFor (Strided f)) f) (m .vb) e ≡ inspectedAt m (Strided f) e
   unfolding inspectedAt stridedInspected stridedElement
   strided-inspected f s =
       let n = countOf m (Strided f) in

@@ -13,7 +13,7 @@ use Rattle.encoding.specs.declared.Store.{Store}
 use Rattle.elements.specs.Machine.{Machine}
 use Rattle.elements.specs.Stores.{sizeOf, countOf}
 use Rattle.elements.specs.Elements.{activeAt, elementAt}
-use Rattle.checks.specs.Verdicts.{lengthOk, registersOk}
+use Rattle.verdicts.specs.Verdicts.{lengthOk, registersOk}
 use Rattle.inspection.specs.Inspection.{firstByte, inspectedAt, inspectedFor, inspectedOf, inspectedNumber, bitOf, inspectedAnswers}
 use Rattle.inspection.specs.Statements.{Answers, InspectsInNumbers}
 use Rattle.inspection.specs.declared.Inspected.{Inspected}

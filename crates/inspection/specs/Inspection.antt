@@ -10,21 +10,21 @@ use Rattle.encoding.specs.declared.Decoded.{Decoded}
 use Rattle.encoding.specs.declared.Decoded.the-variants as D
 use Rattle.encoding.specs.declared.Store.{Store}
 use Rattle.elements.specs.Machine.{Machine}
-use Rattle.elements.specs.Stores.{sizeOf, countOf, registerIn, placeIn}
+use Rattle.elements.specs.Stores.{sizeOf, countOf, registerIn, indexIn}
 use Rattle.elements.specs.Elements.{activeAt, elementAt}
-use Rattle.checks.specs.Verdicts.{lengthOk, registersOk}
+use Rattle.verdicts.specs.Verdicts.{lengthOk, registersOk}
 use Rattle.inspection.specs.declared.Inspected.{Inspected}
 use Rattle.inspection.specs.declared.Inspected.the-variants.{Length, Registers, Undefined, Past, Element}
 
--- the place of its first byte in the Z buffer: "register r from byte r·VB", and the element's place in its register
+-- the index of its first byte in the Z buffer: "register r from byte r·VB", and the element's index in its register
 abbrev pub firstByte : Machine → Store → ℕ → ℕ
-firstByte m s e = registerIn m (classFor s) s e * m .vb + placeIn m (classFor s) s e
+firstByte m s e = registerIn m (classFor s) s e * m .vb + indexIn m (classFor s) s e
 
 -- element e of n by what it is, or past the last
 abbrev pub counted : ℕ → ℕ → Bool → ℕ → ℕ → ℕ → Inspected
-counted e n active address place size = cond (ltb e n) (Element active address place size n) (Past n)
+counted e n active address index size = cond (ltb e n) (Element active address index size n) (Past n)
 
--- element e of a store: whether it is active, its address, the place of its first byte, its bytes' number (msize/8), and how many
+-- element e of a store: whether it is active, its address, the index of its first byte, its bytes' number (msize/8), and how many
 -- elements the store has
 unfoldable pub inspectedAt : Machine → Store → ℕ → Inspected
 inspectedAt m s e =
@@ -49,7 +49,7 @@ inspectedNumber Length = 1
 inspectedNumber Registers = 2
 inspectedNumber Undefined = 4
 inspectedNumber (Past n) = 0
-inspectedNumber (Element active address place size n) = 0
+inspectedNumber (Element active address index size n) = 0
 
 -- active is 1
 abbrev pub bitOf : Bool → ℕ
@@ -62,4 +62,4 @@ inspectedAnswers Length = replicate 5 0
 inspectedAnswers Registers = replicate 5 0
 inspectedAnswers Undefined = replicate 5 0
 inspectedAnswers (Past n) = 0 ∷ 0 ∷ 0 ∷ 0 ∷ n ∷ []
-inspectedAnswers (Element active address place size n) = bitOf active ∷ address ∷ place ∷ size ∷ n ∷ []
+inspectedAnswers (Element active address index size n) = bitOf active ∷ address ∷ index ∷ size ∷ n ∷ []

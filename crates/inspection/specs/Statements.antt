@@ -12,7 +12,7 @@ use Rattle.encoding.specs.declared.Store.{Store}
 use Rattle.elements.specs.Machine.{Machine}
 use Rattle.elements.specs.Stores.{sizeOf, countOf}
 use Rattle.elements.specs.Elements.{activeAt, elementAt}
-use Rattle.checks.specs.Verdicts.{lengthOk, registersOk}
+use Rattle.verdicts.specs.Verdicts.{lengthOk, registersOk}
 use Rattle.inspection.specs.Inspection.{firstByte, inspectedOf, inspectedNumber, inspectedAnswers}
 
 -- the number and the five answers on m, for element e of the word's store

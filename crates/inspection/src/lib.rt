@@ -1,21 +1,21 @@
 // One element of a word's store on a lent machine: no flag is looked at, and no window judged.
 ghost use mathlib.Core.Path.{_≡_};
 ghost use mathlib.Core.Bool.{false};
-ghost use Prim.Native.Nat.{_*_, _<_};
+ghost use Prim.Native.Nat.{_*_};
 ghost use lib.ListN.{length};
 ghost use Rattle.encoding.specs.Encoding.{refused};
 ghost use Rattle.elements.specs.Machine.{machine};
-ghost use Rattle.elements.specs.Plans.{VectorSound, StridedSound};
-ghost use Rattle.checks.specs.Steps.{Sound};
+ghost use Rattle.elements.specs.Accesses.{VectorSound, StridedSound};
+ghost use Rattle.verdicts.specs.Checking.{Sound};
 ghost use Rattle.inspection.specs.Inspection.{inspectedAt, inspectedOf};
 ghost use Rattle.inspection.specs.Steps.{vectorInspected, stridedInspected};
-use elements::StridedPlan;
-use elements::VectorPlan;
+use elements::StridedAccess;
+use elements::VectorAccess;
 use encoding::Decoded;
 use encoding::Store;
 
 // What an element is: refused with 1, 2, or 4 for a word of no class; past the last of `count` elements; or one of them with its
-// address, the place of its first byte in the Z buffer and its bytes' number.
+// address, the index of its first byte in the Z buffer and its bytes' number.
 pub enum Inspected {
     Length,
     Registers,
@@ -26,14 +26,14 @@ pub enum Inspected {
     Element {
         active: bool,
         address: u64,
-        place: u64,
+        index: u64,
         size: u64,
         count: u64,
     },
 }
 
 // Element e of a scatter or quadword store. It is compared before it is narrowed.
-fn inspect_vector(v: VectorPlan, vb: usize, z: &[u8], p: &[u8], e: u64) -> Inspected
+fn inspect_vector(v: VectorAccess, vb: usize, z: &[u8], p: &[u8], e: u64) -> Inspected
     requires { ⌜ VectorSound v vb ⌝ }
     requires { ⌜ (length (now z) ≡ 32 * vb) × (length (now p) ≡ 2 * vb) ⌝ }
     ensures { λ r. ⌜ r ≡ vectorInspected v vb (now (z .entry)) (now (p .entry)) e ⌝ }
@@ -50,14 +50,14 @@ fn inspect_vector(v: VectorPlan, vb: usize, z: &[u8], p: &[u8], e: u64) -> Inspe
     Inspected::Element {
         active,
         address,
-        place: (v.stored * vb + at * v.step) as u64,
+        index: (v.stored * vb + at * v.step) as u64,
         size: v.size as u64,
         count,
     }
 }
 
 // Element e of a strided store. It is compared before it is narrowed.
-fn inspect_strided(s: StridedPlan, vb: usize, e: u64) -> Inspected
+fn inspect_strided(s: StridedAccess, vb: usize, e: u64) -> Inspected
     requires { ⌜ StridedSound s vb ⌝ }
     ensures { λ r. ⌜ r ≡ stridedInspected s vb e ⌝ }
 {
@@ -72,7 +72,7 @@ fn inspect_strided(s: StridedPlan, vb: usize, e: u64) -> Inspected
     Inspected::Element {
         active,
         address,
-        place: (register * vb + at % s.per * s.step) as u64,
+        index: (register * vb + at % s.per * s.step) as u64,
         size: s.size as u64,
         count,
     }
@@ -93,9 +93,9 @@ fn inspect_store(
     ensures { λ r. ⌜ r ≡ inspectedAt (machine vb (now (x .entry)) sp (now (z .entry)) (now (p .entry))) store e ⌝ }
 {
     match store {
-        Store::Scatter(f) => inspect_vector(elements::scatter_plan(f, vb, x, sp), vb, z, p, e),
-        Store::Strided(f) => inspect_strided(elements::strided_plan(f, vb, x, sp, p), vb, e),
-        Store::Quadword(f) => inspect_vector(elements::quadword_plan(f, vb, x), vb, z, p, e),
+        Store::Scatter(f) => inspect_vector(elements::scatter_access(f, vb, x, sp), vb, z, p, e),
+        Store::Strided(f) => inspect_strided(elements::strided_access(f, vb, x, sp, p), vb, e),
+        Store::Quadword(f) => inspect_vector(elements::quadword_access(f, vb, x), vb, z, p, e),
     }
 }
 
@@ -111,7 +111,7 @@ pub fn inspect(
 ) -> Inspected
     ensures { λ r. ⌜ r ≡ inspectedOf (machine vb (now (x .entry)) sp (now (z .entry)) (now (p .entry))) word e ⌝ }
 {
-    if !checks::length_ok(vb) {
+    if !verdicts::length_ok(vb) {
         return Inspected::Length;
     }
     if z.len() != 32 * vb {

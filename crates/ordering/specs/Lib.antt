@@ -1,3 +1,2 @@
--- Keys of elements and their order. These definitions serve the contracts of the code; what the customer must believe is in the crates
--- writes and making.
+-- ---- what serves the contracts of the code's own functions: keys of elements, and their order
 pub mod Keys

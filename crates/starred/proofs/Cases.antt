@@ -3,17 +3,21 @@ use mathlib.Core.Path.{refl}
 use Rattle.encoding.specs.Classes.{classes, classAt, position, any, everyBelow, inside, belongs, has}
 use Rattle.encoding.specs.Decoding.{multipleOf, storeOf, indexOf, decodeOf}
 use Rattle.encoding.specs.Encoding.{rowOf}
-use Rattle.writes.specs.LittleEndian.{leVal}
-use Rattle.writes.specs.Elements.{over, written}
-use Rattle.writes.specs.Window.{windowOk, inWindow}
+use Rattle.window.specs.LittleEndian.{leVal, leBytes}
+use Rattle.writes.specs.Sets.{join, runs, writesAt}
+use Rattle.writes.specs.Elements.{written, below, from, splice, spliceAll}
+use Rattle.window.specs.Overwriting.{overwritten}
+use Rattle.writes.specs.Encoding.{runThen, runsThen, trailer, encodeRuns, encode}
+use Rattle.window.specs.Window.{windowOk, inWindow}
 use Rattle.elements.specs.Machine.{bitAt}
 use Rattle.elements.specs.Counter.{lowestSet, countIn, maskBit}
 use Rattle.elements.specs.Elements.{activeAt, elementAt, actives, elements}
-use Rattle.checks.specs.Verdicts.{lengthOk, registersOk, firstOutside, settled, verdictOf}
+use Rattle.verdicts.specs.Verdicts.{patchOf, lengthOk, registersOk, firstOutside, decided, verdictOf}
 use Rattle.starred.specs.Cases.{cases, StarredCases}
 
 pub starred-cases : StarredCases
-unfolding classes classAt position any everyBelow inside belongs has multipleOf storeOf indexOf decodeOf rowOf leVal over written
-    windowOk inWindow bitAt lowestSet countIn maskBit activeAt elementAt actives elements lengthOk registersOk firstOutside settled
-    verdictOf cases
+unfolding classes classAt position any everyBelow inside belongs has multipleOf storeOf indexOf decodeOf rowOf leVal leBytes join runs
+    writesAt overwritten written below from splice spliceAll runThen runsThen trailer encodeRuns encode windowOk inWindow bitAt
+    lowestSet countIn
+    maskBit activeAt elementAt actives elements patchOf lengthOk registersOk firstOutside decided verdictOf cases
 starred-cases = refl

@@ -1,4 +1,4 @@
--- The starred cases of document 01, 'Cases at the edges', in one table: each word is decoded and run on a whole machine. VB is 16.
+-- The starred cases of document 01, 'Cases at the edges', in one table: each word is decoded and stored on a whole machine. VB is 16.
 -- Assumes nothing.
 use Prim.Native.Nat.{ℕ, _+_, _-_, _*_}
 use mathlib.Core.Bool.{true, false}
@@ -14,11 +14,12 @@ use Rattle.encoding.specs.declared.Extension.the-variants.{None, Uxtw, Sxtw}
 use Rattle.encoding.specs.declared.Store.the-variants.{Scatter, Strided}
 use Rattle.elements.specs.Machine.{Machine, machine}
 use Rattle.elements.specs.Counter.{counterOf, countIn}
-use Rattle.checks.specs.Verdicts.{verdictOf, elementsFor}
-use Rattle.running.specs.Running.{memoryAfter}
-use Rattle.checks.specs.declared.Flags.{Flags}
-use Rattle.checks.specs.declared.Verdict.{Verdict}
-use Rattle.checks.specs.declared.Verdict.the-variants.{Done, Undefined, Fault}
+use Rattle.verdicts.specs.Verdicts.{elementsFor, verdictOf}
+use Rattle.verdicts.specs.declared.Flags.{Flags}
+use Rattle.verdicts.specs.declared.Refusal.the-variants.{Undefined, Fault}
+use Rattle.verdicts.specs.declared.Verdict.{Verdict}
+use Rattle.verdicts.specs.declared.Verdict.the-variants.{Done, Refused}
+use Rattle.storing.specs.Storing.{memoryAfter}
 
 -- ---- the machines
 
@@ -76,20 +77,21 @@ high = 1 ∷ 0 ∷ 0 ∷ 0 ∷ 0 ∷ 0 ∷ 0 ∷ 0x20 ∷ replicate 8 0
 
 -- ---- the table
 
--- a word on a machine with a window of zeros, and what decoding, running, the memory and the count of P8 as a counter must be
+-- a word on a machine with a window of zeros, and what decoding, the verdict, the memory and the count of P8 as a counter must be. The
+-- patch buffer has 1,040 bytes, "the largest of one store".
 pub record Case : Type 0 where
   pub word : ℕ
   pub flags : Flags
   pub state : Machine
   pub base : ℕ
-  pub room : ℕ
+  pub long : ℕ
   pub decoded : Decoded
   pub verdict : Verdict
   pub memory : List ℕ
   pub count : ℕ
 
 abbrev pub case : ℕ → Flags → Machine → ℕ → ℕ → Decoded → Verdict → List ℕ → ℕ → Case
-case w f m b l d v s n = record { word = w; flags = f; state = m; base = b; room = l; decoded = d; verdict = v; memory = s; count = n }
+case w f m b l d v s n = record { word = w; flags = f; state = m; base = b; long = l; decoded = d; verdict = v; memory = s; count = n }
 
 -- strided stores with Rm, Pc and Rn 0, by class, multiple and first register
 abbrev pub strided : ℕ → ℤ → ℕ → Decoded
@@ -102,30 +104,30 @@ scatter c x = D.Known (Scatter (record { class = c; zm = 1; extension = x; pg = 
 unfoldable pub cases : List Case
 cases =
     -- "A16F6000: multiple −2; with base 1000h it starts at 0FE0h."
-    case 0xA16F6000 streaming full 0x0FE0 32 (strided 10 (negsuc 1) 0) (Done 4 32) (rows 0 ++ rows 8) 0
+    case 0xA16F6000 streaming full 0x0FE0 32 (strided 10 (negsuc 1) 0) (Done 4 32 48) (rows 0 ++ rows 8) 0
     -- "A168E000: multiple −32."
-    ∷ case 0xA168E000 streaming full 0x0E00 64 (strided 11 (negsuc 31) 0) (Done 8 64) (rows 0 ++ (rows 4 ++ (rows 8 ++ rows 12))) 0
+    ∷ case 0xA168E000 streaming full 0x0E00 64 (strided 11 (negsuc 31) 0) (Done 8 64 80) (rows 0 ++ (rows 4 ++ (rows 8 ++ rows 12))) 0
     -- "A1206010: registers 16 and 24."
-    ∷ case 0xA1206010 streaming full 0x9000 32 (strided 8 (pos 0) 16) (Done 4 32) (row 100 ++ row 200) 0
+    ∷ case 0xA1206010 streaming full 0x9000 32 (strided 8 (pos 0) 16) (Done 4 32 48) (row 100 ++ row 200) 0
     -- "A120E004, A1206008 and E4208000 are undefined here."
-    ∷ case 0xA120E004 streaming full 0x1000 8 D.Undefined Undefined (replicate 8 0) 0
-    ∷ case 0xA1206008 streaming full 0x1000 8 D.Undefined Undefined (replicate 8 0) 0
-    ∷ case 0xE4208000 plain full 0x1000 8 D.Undefined Undefined (replicate 8 0) 0
+    ∷ case 0xA120E004 streaming full 0x1000 8 D.Undefined (Refused Undefined) (replicate 8 0) 0
+    ∷ case 0xA1206008 streaming full 0x1000 8 D.Undefined (Refused Undefined) (replicate 8 0) 0
+    ∷ case 0xE4208000 plain full 0x1000 8 D.Undefined (Refused Undefined) (replicate 8 0) 0
     -- "Class 2, base 1000h, offset element with low half FFFFFFF8h: SXTW gives 0FF8h, UXTW 100000FF8h."
-    ∷ case 0xE581C000 plain (on low 0 0) 0 0 (scatter 2 Sxtw) (Fault 0 0x0FF8) [] 0
-    ∷ case 0xE5818000 plain (on low 0 0) 0 0 (scatter 2 Uxtw) (Fault 0 0x100000FF8) [] 0
+    ∷ case 0xE581C000 plain (on low 0 0) 0 0 (scatter 2 Sxtw) (Refused (Fault 0 0x0FF8)) [] 0
+    ∷ case 0xE5818000 plain (on low 0 0) 0 0 (scatter 2 Uxtw) (Refused (Fault 0 0x100000FF8)) [] 0
     -- "Class 1 with UXTW gives 800000FC0h."
-    ∷ case 0xE5A18000 plain (on low 0 0) 0 0 (scatter 1 Uxtw) (Fault 0 0x800000FC0) [] 0
+    ∷ case 0xE5A18000 plain (on low 0 0) 0 0 (scatter 1 Uxtw) (Refused (Fault 0 0x800000FC0)) [] 0
     -- "Class 3, base 1000h, offset 2000000000000001h: address 1008h."
-    ∷ case 0xE5A1A000 plain (on high 0 0) 0x1008 8 (scatter 3 None) (Done 1 8) (take 8 (rows 0)) 0
+    ∷ case 0xE5A1A000 plain (on high 0 0) 0x1008 8 (scatter 3 None) (Done 1 8 24) (take 8 (rows 0)) 0
     -- "Counters over two registers: 0018h element 0"
-    ∷ case 0xA1606000 streaming (on zeros 0x18 0x00) 0x1000 32 (strided 10 (pos 0) 0) (Done 1 8) (placedAt 32 0 (take 8 (rows 0))) 1
+    ∷ case 0xA1606000 streaming (on zeros 0x18 0x00) 0x1000 32 (strided 10 (pos 0) 0) (Done 1 8 24) (placedAt 32 0 (take 8 (rows 0))) 1
     -- "8038h element 3"
-    ∷ case 0xA1606000 streaming (on zeros 0x38 0x80) 0x1000 32 (strided 10 (pos 0) 0) (Done 1 8) (placedAt 32 24 (drop 8 (rows 8))) 3
+    ∷ case 0xA1606000 streaming (on zeros 0x38 0x80) 0x1000 32 (strided 10 (pos 0) 0) (Done 1 8 24) (placedAt 32 24 (drop 8 (rows 8))) 3
     -- "8000h none"
-    ∷ case 0xA1606000 streaming (on zeros 0x00 0x80) 0x1000 32 (strided 10 (pos 0) 0) (Done 0 0) (replicate 32 0) 0
+    ∷ case 0xA1606000 streaming (on zeros 0x00 0x80) 0x1000 32 (strided 10 (pos 0) 0) (Done 0 0 4) (replicate 32 0) 0
     -- "0013h (byte count 9) elements 0 and 1"
-    ∷ case 0xA1606000 streaming (on zeros 0x13 0x00) 0x1000 32 (strided 10 (pos 0) 0) (Done 2 16) (placedAt 32 0 (rows 0)) 9
+    ∷ case 0xA1606000 streaming (on zeros 0x13 0x00) 0x1000 32 (strided 10 (pos 0) 0) (Done 2 16 32) (placedAt 32 0 (rows 0)) 9
     ∷ []
 
 -- ---- what the definitions say
@@ -136,14 +138,15 @@ pub record Outcome : Type 0 where
   pub memory : List ℕ
   pub count : ℕ
 
+abbrev pub verdictIn : Case → Verdict
+verdictIn c = verdictOf (c .flags) (c .state) (c .base) (c .long) (c .word) 1040
+
 abbrev pub outcome : Case → Outcome
 outcome c =
     record {
       decoded = decodeOf (c .word);
-      verdict = verdictOf (c .flags) (c .state) (c .base) (c .room) (c .word);
-      memory =
-          memoryAfter (verdictOf (c .flags) (c .state) (c .base) (c .room) (c .word)) (c .base) (replicate (c .room) 0)
-          (elementsFor (c .state) (decodeOf (c .word)));
+      verdict = verdictIn c;
+      memory = memoryAfter (verdictIn c) (c .base) (replicate (c .long) 0) (elementsFor (c .state) (decodeOf (c .word)));
       count = countIn (counterOf (c .state) 0);
     }
 

@@ -1,18 +1,17 @@
 -- Document 01's whole example: two stores of this model, done over one window, through demand 3. Its proof is `whole-example` in
 -- proofs/Examples.antt. Assumes nothing.
-use Prim.Native.Nat.{ℕ}
+use Prim.Native.Nat.{ℕ, _≤_}
 use mathlib.Core.List.{List, [], _∷_, _++_}
 use mathlib.Core.Path.{_≡_}
 use lib.ListN.{length, replicate}
 use Rattle.writes.specs.Examples.{examplePatch}
 use Rattle.elements.specs.Machine.{Machine, machine}
-use Rattle.checks.specs.Verdicts.{verdictOf}
-use Rattle.checks.specs.declared.Verdict.the-variants.{Done}
-use Rattle.making.specs.Making.{patchOf}
+use Rattle.verdicts.specs.Verdicts.{verdictOf}
+use Rattle.verdicts.specs.declared.Verdict.the-variants.{Done}
+use Rattle.demands.specs.Demand3.{DoneOver, Filling, patchFor, HandsOut, LeaveTheSame}
 use Rattle.starred.specs.Cases.{plain, streaming}
-use Rattle.demands.specs.Demand3.{DoneOver, HandsOut, LeaveTheSame}
 
--- four 32-bit elements by their low bytes, with the same byte in their other places
+-- four 32-bit elements by their low bytes, with the same byte in their other bytes
 abbrev pub words : ℕ → ℕ → ℕ → ℕ → ℕ → List ℕ
 words r a b c d = a ∷ r ∷ r ∷ r ∷ b ∷ r ∷ r ∷ r ∷ c ∷ r ∷ r ∷ r ∷ d ∷ r ∷ r ∷ r ∷ []
 
@@ -36,22 +35,26 @@ second = holding (words 0 1 0 5 5) (words 0xFF 0xA3 0xA1 0x00 0xA4)
 abbrev pub idle : Machine
 idle = machine 16 (replicate 31 0) 0 (replicate 512 0) (replicate 32 0)
 
+-- every call over a window of L bytes at 1000h, in a buffer with room, hands out s
+abbrev pub Hands : Machine → ℕ → List ℕ → Type 0
+Hands m L s = (mem buffer : List ℕ) → Filling L mem → length s ≤ length buffer → HandsOut plain m 0x1000 mem word buffer s
+
 pub record WholeExample : Type 0 where
   pub first-done : DoneOver plain first 0x1000 6 word
   pub second-done : DoneOver plain second 0x1000 6 word
-  -- "Four elements, four bytes moved, and the patch is 31 bytes"
-  pub counted : verdictOf plain first 0x1000 6 word ≡ Done 4 4
-  pub first-patch : HandsOut plain first 0x1000 6 word examplePatch
+  -- "Four elements, four bytes moved, and the patch is 31 bytes", in a buffer of just as many
+  pub counted : verdictOf plain first 0x1000 6 word 31 ≡ Done 4 4 31
+  pub first-patch : Hands first 6 examplePatch
   -- the second store gives "the same patch", so that both leave the same memory from every filling
-  pub second-patch : HandsOut plain second 0x1000 6 word examplePatch
+  pub second-patch : Hands second 6 examplePatch
   pub same-memory : LeaveTheSame 0x1000 6 plain first word plain second word
   -- "No active element, L = 0: done, patch `50 45 00 00`."
   pub idle-done : DoneOver plain idle 0x1000 0 word
-  pub idle-patch : HandsOut plain idle 0x1000 0 word (0x50 ∷ 0x45 ∷ 0 ∷ 0 ∷ [])
+  pub idle-patch : Hands idle 0 (0x50 ∷ 0x45 ∷ 0 ∷ 0 ∷ [])
 
 -- "the largest of one store 1,040": class 11 with all 128 elements active (counter 8008h in P8), VB 256
 abbrev pub largest : Machine
 largest = machine 256 (0x1000 ∷ replicate 30 0) 0 (replicate 8192 0) (replicate 256 0 ++ (0x08 ∷ 0x80 ∷ replicate 254 0))
 
 abbrev pub LargestStorePatch : Type 0
-LargestStorePatch = DoneOver streaming largest 0x1000 1024 0xA160E000 × (length (patchOf largest 0xA160E000) ≡ 1040)
+LargestStorePatch = DoneOver streaming largest 0x1000 1024 0xA160E000 × (length (patchFor largest 0xA160E000) ≡ 1040)

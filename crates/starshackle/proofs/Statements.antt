@@ -5,7 +5,7 @@ use Prim.Native.Nat.{ℕ, _%_}
 use native.Mathlib.Nat.{div-one}
 use lib.Dec.{eqb}
 use Rattle.encoding.specs.Classes.{bit}
-use Rattle.starshackle.specs.Running.{FlagsAreBits}
+use Rattle.starshackle.specs.Interface.{FlagsAreBits}
 
 pub flags-are-bits : FlagsAreBits
 flags-are-bits n =

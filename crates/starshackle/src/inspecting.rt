@@ -1,4 +1,4 @@
-// One element of a store as a number and five answers: active, address, the place of its first byte in the Z buffer, its bytes'
+// One element of a store as a number and five answers: active, address, the index of its first byte in the Z buffer, its bytes'
 // number, and how many elements the store has.
 ghost use mathlib.Core.Path.{_≡_};
 ghost use Rattle.inspection.specs.Inspection.{inspectedNumber, bitOf, inspectedAnswers};
@@ -33,9 +33,9 @@ pub fn answers_of(r: Inspected) -> [u64; 5]
         Inspected::Element {
             active,
             address,
-            place,
+            index,
             size,
             count,
-        } => [bit_of(active), address, place, size, count],
+        } => [bit_of(active), address, index, size, count],
     }
 }

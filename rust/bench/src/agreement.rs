@@ -4,14 +4,13 @@
 use crate::cases::{groups, Outcome};
 use crate::sides::{Side, SIDES};
 use crate::table::agree;
-use compare::making::{self, Make};
 use compare::patches::{kinds, windows};
 use compare::random::Random;
 use compare::report::Report;
-use compare::running::classes::CLASSES;
-use compare::running::generate::{self, other_word};
+use compare::storing;
+use compare::storing::classes::CLASSES;
+use compare::storing::generate::other_word;
 use compare::GARBAGE;
-use starshackle::run::Window;
 
 const STORES: u64 = 40_000;
 const STRINGS: u64 = 40_000;
@@ -34,28 +33,12 @@ fn count(verdicts: &mut [u64; 12], verdict: u64) {
     verdicts[verdict as usize] += 1;
 }
 
+/// With the independent model, in buffers too short, exact and longer and on several fillings.
 #[test]
-fn running() {
-    let mut verdicts = [0; 12];
-    for input in (0..STORES).map(generate::input) {
-        let run = |side: &Side| {
-            let (mut answer, mut memory) = ([GARBAGE; 5], input.memory.clone());
-            let window = Window { base: input.base, memory: &mut memory };
-            let verdict = (side.run)(&input.machine(), window, input.word, &mut answer);
-            (verdict, answer.to_vec(), memory)
-        };
-        count(&mut verdicts, same(run, || input.text()).0);
-    }
-    assert!(verdicts[..8].iter().all(|&count| count > 100), "{verdicts:?}");
-}
-
-/// With the independent implementation, in buffers too short, exact and longer, as the model is.
-#[test]
-fn making_patches() {
-    for side in &SIDES[1..] {
+fn storing() {
+    for side in &SIDES {
         let report = Report::default();
-        let make: &Make = &side.make_patch;
-        making::compare(&report, make, STORES, 1);
+        storing::compare(&report, &side.store, STORES, 1);
         assert_eq!(report.differences(), 0, "{}", side.name);
     }
 }
@@ -67,8 +50,8 @@ fn applying_patches() {
         let mut random = Random::new(number);
         let kind = random.below(kinds::KINDS.len());
         let kinds::Case { runs, string } = kinds::case(&mut random, kind);
-        let place = random.below(windows::KINDS.len());
-        let window = windows::window(&mut random, place, &runs);
+        let around = random.below(windows::KINDS.len());
+        let window = windows::window(&mut random, around, &runs);
         let filling = random.bytes(window.length);
         let apply = |side: &Side| {
             let (mut answer, mut memory) = ([GARBAGE; 5], filling.clone());

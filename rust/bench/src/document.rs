@@ -22,14 +22,21 @@ fn replaced(document: &str, figures: &str) -> Option<String> {
     Some(format!("{before}{BEGIN}\n{figures}\n{END}{behind}"))
 }
 
-/// What was measured on.
-pub fn machine() -> String {
+/// What was measured on, and how often.
+pub fn machine(runs: usize) -> String {
     let information = fs::read_to_string("/proc/cpuinfo").unwrap_or_default();
     let lines = information.lines().filter_map(|line| line.split_once(':'));
     let mut names = lines.filter(|(name, _)| name.trim() == "model name");
     let name = names.next().map_or("an unknown processor", |(_, value)| value.trim());
     let least = SAMPLE.as_micros();
-    format!("Processor: {name}. Medians of {ROUNDS} rounds, samples of at least {least} µs.")
+    let rounds = format!("{ROUNDS} rounds, samples of at least {least} µs");
+    match runs {
+        1 => format!("Processor: {name}. Medians of {rounds}."),
+        _ => format!(
+            "Processor: {name}. Medians of {runs} runs, each the median of {rounds}; in brackets the\n\
+             lowest and the highest of the runs."
+        ),
+    }
 }
 
 #[cfg(test)]

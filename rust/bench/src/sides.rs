@@ -1,16 +1,13 @@
-//! What is measured: the same four calls of the model and of two implementations in Rust.
+//! What is measured: the same three calls of the model and of two implementations in Rust.
 
 use crate::{hand, idiomatic};
-use starshackle::run::{Machine, Window};
-use starshackle::{Answer, Fields};
+use starshackle::{Answer, Fields, Machine, Window};
 
-/// The four calls of one implementation, as the crate `starshackle` has them.
+/// The three calls of one implementation, as the crate `starshackle` has them.
 pub struct Side {
     pub name: &'static str,
-    /// Machine, window, word, answer.
-    pub run: fn(&Machine, Window, u32, &mut Answer) -> u64,
-    /// Machine, window's address and length, word, patch buffer, answer.
-    pub make_patch: fn(&Machine, u64, u64, u32, &mut [u8], &mut Answer) -> u64,
+    /// Machine, window, word, patch buffer, answer.
+    pub store: fn(&Machine, Window, u32, &mut [u8], &mut [u64; 6]) -> u64,
     /// Window's address, memory, patch, answer.
     pub apply: fn(u64, &mut [u8], &[u8], &mut Answer) -> u64,
     /// Word, fields.
@@ -22,31 +19,24 @@ pub struct Side {
 pub const SIDES: [Side; 3] = [
     Side {
         name: "model",
-        run: starshackle::run_numbers,
-        make_patch: starshackle::make_patch_numbers,
+        store: starshackle::store_numbers,
         apply: starshackle::apply_numbers,
         decode: starshackle::decode_fields,
     },
     Side {
         name: "idiomatic",
-        run: |m, w, word, answer| {
-            idiomatic::run(m.vb, m.flags.0, &m.x, m.sp, m.z, m.p, w.base, w.memory, word, answer)
-        },
-        make_patch: |m, base, length, word, patch, answer| {
-            let Machine { vb, flags, ref x, sp, z, p } = *m;
-            idiomatic::make_patch(vb, flags.0, x, sp, z, p, base, length, word, patch, answer)
+        store: |machine, Window { base, memory }, word, patch, answer| {
+            let Machine { vb, flags, ref x, sp, z, p } = *machine;
+            idiomatic::store(vb, flags.0, x, sp, z, p, base, memory, word, patch, answer)
         },
         apply: idiomatic::apply,
         decode: idiomatic::decode,
     },
     Side {
         name: "hand",
-        run: |m, w, word, answer| {
-            hand::run(m.vb, m.flags.0, &m.x, m.sp, m.z, m.p, w.base, w.memory, word, answer)
-        },
-        make_patch: |m, base, length, word, patch, answer| {
-            let Machine { vb, flags, ref x, sp, z, p } = *m;
-            hand::make_patch(vb, flags.0, x, sp, z, p, base, length, word, patch, answer)
+        store: |machine, Window { base, memory }, word, patch, answer| {
+            let Machine { vb, flags, ref x, sp, z, p } = *machine;
+            hand::store(vb, flags.0, x, sp, z, p, base, memory, word, patch, answer)
         },
         apply: hand::apply,
         decode: hand::decode,

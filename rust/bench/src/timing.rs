@@ -1,6 +1,5 @@
 //! The time that calls take.
 
-use crate::verdicts::DONE;
 use std::time::{Duration, Instant};
 
 /// Rounds, of which medians are taken.
@@ -22,15 +21,19 @@ pub struct Measured<const N: usize> {
     pub ratios: [f64; N],
 }
 
-/// A call that answers its verdict, which is to be done.
-pub fn repeated<'a>(mut call: impl FnMut() -> u64 + 'a) -> Repeated<'a> {
-    Box::new(move |calls| {
-        let start = Instant::now();
-        let refused = (0..calls).filter(|_| call() != DONE).count();
-        let time = start.elapsed();
-        assert_eq!(refused, 0, "every call is done");
-        time
-    })
+/// A call that tells whether its verdict is the one that is due. It goes through a side's pointer,
+/// of which the compiler knows nothing, so that no call is dropped or moved.
+pub fn repeated<'a>(mut call: impl FnMut() -> bool + 'a) -> Repeated<'a> {
+    Box::new(move |calls| timed(calls, &mut call))
+}
+
+/// How long so many calls take.
+pub fn timed(calls: u32, mut call: impl FnMut() -> bool) -> Duration {
+    let start = Instant::now();
+    let wrong = (0..calls).filter(|_| !call()).count();
+    let time = start.elapsed();
+    assert_eq!(wrong, 0, "every verdict is the one that is due");
+    time
 }
 
 /// Measures the subjects in rounds, each of them once in a round, so that all meet the same
@@ -63,8 +66,8 @@ fn enough(subject: &mut Repeated) -> u32 {
     calls
 }
 
-/// The middle one of an odd number of values.
-fn median(values: impl Iterator<Item = f64>) -> f64 {
+/// The middle one of the values, or the higher of two.
+pub fn median(values: impl Iterator<Item = f64>) -> f64 {
     let mut values: Vec<f64> = values.collect();
     values.sort_unstable_by(f64::total_cmp);
     values[values.len() / 2]
@@ -78,6 +81,7 @@ mod tests {
     fn medians() {
         assert_eq!(median([3.0, 1.0, 2.0].into_iter()), 2.0);
         assert_eq!(median([5.0].into_iter()), 5.0);
+        assert_eq!(median([5.0, 4.0].into_iter()), 5.0);
     }
 
     #[test]

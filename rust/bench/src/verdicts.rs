@@ -1,10 +1,9 @@
-//! Verdicts by their numbers, and the numbers of patches.
+//! Verdicts by their numbers, and the numbers of patches and windows.
 
-pub use compare::making::independent::NO_ROOM;
-pub use compare::patches::reader::{BAD_PATCH, MOST_BYTES, MOST_RUNS, OUTSIDE};
-pub use compare::patches::reader::{RUN_MARK, TRAILER_MARK};
-pub use compare::running::arm::{DONE, FAULT, ILLEGAL, LENGTH, LONGEST};
-pub use compare::running::arm::{REGISTERS, STACK, UNDEFINED, WINDOW};
+pub use compare::patches::reader::{MOST_BYTES, MOST_RUNS, RUN_MARK, TRAILER_MARK};
+pub use compare::verdicts::{BAD_PATCH, DONE, FAULT, ILLEGAL, LENGTH, NO_ROOM};
+pub use compare::verdicts::{OUTSIDE, REGISTERS, STACK, UNDEFINED, WINDOW};
+pub use compare::LONGEST;
 
 /// Bytes of a run before its payload.
 pub const HEAD: usize = 12;

@@ -32,7 +32,7 @@ pub fn text(path: &str, described: &str) -> Result<String, Failure> {
     };
     match String::from_utf8(bytes(path, described)?) {
         Ok(text) => match text.find('\0') {
-            Some(place) => Err(no_text(&text.as_bytes()[..place])),
+            Some(index) => Err(no_text(&text.as_bytes()[..index])),
             None => Ok(text),
         },
         Err(error) => Err(no_text(&error.as_bytes()[..error.utf8_error().valid_up_to()])),

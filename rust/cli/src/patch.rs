@@ -7,7 +7,7 @@ use crate::missing::{Missing, REQUIRE};
 use crate::output::{self, Output};
 use crate::store::{self, Described};
 use crate::{numbers, verdicts};
-use starshackle::{make_patch, Made, Refusal, Verdict, LARGEST_STORE_PATCH};
+use starshackle::{Refusal, Stored, Verdict, Window, LARGEST_STORE_PATCH};
 
 pub const COMMAND: Command = Command {
     name: "patch",
@@ -43,35 +43,37 @@ fn run(arguments: &Arguments) -> Result<Report, Failure> {
     output::differs(out, file)?;
     let described = store::read(file)?;
     let mut buffer = [0; LARGEST_STORE_PATCH];
-    let made = make(&described, &mut buffer);
-    let missing = Missing::of(described.word, &described.registers, &made);
+    let outcome = make(&described, &mut buffer);
+    let missing = Missing::of(described.word, &described.registers, &outcome);
     missing.check(arguments, file)?;
-    let patch = made.as_ref().ok().map(|made| &buffer[..made.length]);
-    let text =
-        if arguments.json { json(&made, &missing, patch) } else { text(&made) + &missing.text() };
+    let patch = outcome.as_ref().ok().map(|stored| &buffer[..stored.length]);
+    let text = if arguments.json {
+        json(&outcome, &missing, patch)
+    } else {
+        text(&outcome) + &missing.text()
+    };
     let output = patch.map(|patch| Output::prepare(out, patch)).transpose()?;
     Ok(Report { text, refused: patch.is_none(), output })
 }
 
-fn make(described: &Described, buffer: &mut [u8]) -> Result<Made, Refusal> {
-    let Described { word, ref registers, base, length, .. } = *described;
-    make_patch(&registers.machine(), base, length, word?, buffer)
+/// Makes the patch. The store runs over a scratch window: what it holds plays no part.
+fn make(described: &Described, buffer: &mut [u8]) -> Result<Stored, Refusal> {
+    let Described { word, ref registers, base, ref memory, .. } = *described;
+    let window = Window { base, memory: &mut vec![0; memory.len()] };
+    starshackle::store(&registers.machine(), window, word?, buffer)
 }
 
-fn text(made: &Result<Made, Refusal>) -> String {
-    verdicts::text(made, |Made { elements, bytes, length }| {
-        format!("{}  length of the patch {length}\n", verdicts::counts(*elements, *bytes))
+fn text(outcome: &Result<Stored, Refusal>) -> String {
+    verdicts::text(outcome, |stored| {
+        format!("{}  length of the patch {}\n", verdicts::counts(stored), stored.length)
     })
 }
 
-fn json(made: &Result<Made, Refusal>, missing: &Missing, patch: Option<&[u8]>) -> String {
-    let Made { elements, bytes, .. } = made.unwrap_or(Made { elements: 0, bytes: 0, length: 0 });
-    let mut members = Vec::from(verdicts::members(Verdict::of(made)));
+fn json(outcome: &Result<Stored, Refusal>, missing: &Missing, patch: Option<&[u8]>) -> String {
+    let mut members = Vec::from(verdicts::members(Verdict::of(outcome)));
+    members.push(("not_given", missing.json()));
+    members.extend(verdicts::store_members(outcome));
     members.extend([
-        ("not_given", missing.json()),
-        ("detail", verdicts::detail_json(made)),
-        ("active_elements", elements.into()),
-        ("bytes_moved", bytes.into()),
         ("length", patch.map(|patch| patch.len() as u64).into()),
         ("patch", patch.map(|patch| numbers::bytes(patch, "")).into()),
     ]);

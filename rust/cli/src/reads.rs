@@ -35,7 +35,8 @@ mod tests {
     use super::*;
     use crate::classes::numbered;
     use crate::known::Known;
-    use starshackle::{decode, element, run, Element, Flags, Machine, Ran, Refusal, Window};
+    use starshackle::{decode, element, store, Element, Stored, LARGEST_STORE_PATCH};
+    use starshackle::{Flags, Machine, Refusal, Window};
 
     const VB: usize = 16;
 
@@ -55,8 +56,8 @@ mod tests {
         (0xE420_2000, 0x001F_1FFF),
     ];
 
-    /// What the model says of a store.
-    type Answer = (Result<Ran, Refusal>, Vec<u8>, Vec<Element>);
+    /// What the model says of a store: its answer, memory, patch and elements.
+    type Answer = (Result<Stored, Refusal>, Vec<u8>, Vec<u8>, Vec<Element>);
 
     #[derive(Clone)]
     struct Held {
@@ -90,10 +91,12 @@ mod tests {
             let features = Flags::SVE | Flags::SME2 | Flags::SVE2P1;
             let flags = features | Flags::STREAMING | Flags::FA64;
             let Held { x, sp, ref z, ref p } = *self;
-            let (machine, mut memory) = (Machine { vb: VB, flags, x, sp, z, p }, vec![0; 0xA000]);
-            let outcome = run(&machine, Window { base: 0, memory: &mut memory }, word);
+            let machine = Machine { vb: VB, flags, x, sp, z, p };
+            let (mut memory, mut patch) = (vec![0; 0xA000], vec![0; LARGEST_STORE_PATCH]);
+            let window = Window { base: 0, memory: &mut memory };
+            let outcome = store(&machine, window, word, &mut patch);
             let elements = (0..).map_while(|number| element(&machine, word, number).unwrap());
-            (outcome, memory, elements.collect())
+            (outcome, memory, patch, elements.collect())
         }
     }
 

@@ -8,7 +8,9 @@ use crate::missing::{Missing, REQUIRE};
 use crate::picture::picture;
 use crate::store::{self, Described};
 use crate::{numbers, verdicts};
-use starshackle::{element, Element, Machine, Ran, Refusal, Verdict, Window};
+use starshackle::{
+    element, Element, Machine, Refusal, Stored, Verdict, Window, LARGEST_STORE_PATCH,
+};
 
 pub const COMMAND: Command = Command {
     name: "run",
@@ -52,7 +54,7 @@ fn run(arguments: &Arguments) -> Result<Report, Failure> {
 struct Answer {
     word: Option<u32>,
     known: Option<Known>,
-    outcome: Result<Ran, Refusal>,
+    outcome: Result<Stored, Refusal>,
     missing: Missing,
     elements: Vec<Row>,
     base: u64,
@@ -71,20 +73,19 @@ impl Answer {
         let Described { word, registers, base, length, mut memory } = described;
         let machine = registers.machine();
         let window = Window { base, memory: &mut memory };
-        let (outcome, elements) = match word {
-            Ok(word) => (starshackle::run(&machine, window, word), rows(&machine, word)),
-            Err(refusal) => (Err(refusal), Vec::new()),
-        };
+        let mut scratch = [0; LARGEST_STORE_PATCH]; // for the patch, which isn't shown
+        let store = |word| starshackle::store(&machine, window, word, &mut scratch);
+        let outcome = word.and_then(store);
+        let elements = word.map_or(Vec::new(), |word| rows(&machine, word));
         let missing = Missing::of(word, &registers, &outcome);
         let (word, known) = (word.ok(), word.and_then(Known::decode).ok());
         Answer { word, known, outcome, missing, elements, base, length, memory }
     }
 
     fn text(&self) -> String {
-        let counts = |ran: &Ran| verdicts::counts(ran.elements, ran.bytes);
         let parts = [self.store_text(), self.elements_text(), self.window_text()];
         let parts: String = parts.into_iter().flatten().map(|part| format!("\n{part}")).collect();
-        verdicts::text(&self.outcome, counts) + &self.missing.text() + &parts
+        verdicts::text(&self.outcome, verdicts::counts) + &self.missing.text() + &parts
     }
 
     fn store_text(&self) -> Option<String> {
@@ -143,19 +144,13 @@ impl Answer {
     }
 
     fn json(&self) -> Json {
-        let Ran { elements, bytes } = self.outcome.unwrap_or(Ran { elements: 0, bytes: 0 });
         let mut members = vec![("word", self.word.map(numbers::hexadecimal).into())];
         members.extend(verdicts::members(Verdict::of(&self.outcome)));
         members.extend(known::members(self.known.as_ref()));
+        members.push(("not_given", self.missing.json()));
+        members.extend(verdicts::store_members(&self.outcome));
         let rows = self.elements.iter().enumerate().map(|(number, row)| row.json(number));
-        members.extend([
-            ("not_given", self.missing.json()),
-            ("detail", verdicts::detail_json(&self.outcome)),
-            ("active_elements", elements.into()),
-            ("bytes_moved", bytes.into()),
-            ("elements", Json::List(rows.collect())),
-            ("window", self.window_json()),
-        ]);
+        members.extend([("elements", Json::List(rows.collect())), ("window", self.window_json())]);
         Json::Object(members)
     }
 
@@ -177,7 +172,7 @@ fn rows(machine: &Machine, word: u32) -> Vec<Row> {
 
 impl Row {
     fn of(machine: &Machine, element: Element) -> Row {
-        let bytes = machine.z.iter().skip(element.place as usize).take(element.bytes as usize);
+        let bytes = machine.z.iter().skip(element.index as usize).take(element.bytes as usize);
         Row { element, bytes: bytes.copied().collect() }
     }
 

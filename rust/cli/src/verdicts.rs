@@ -2,7 +2,7 @@
 
 use crate::json::Json;
 use crate::numbers;
-use starshackle::{Refusal, Verdict};
+use starshackle::{Refusal, Stored, Verdict};
 
 /// What text shows of a call: its counts where it is done, or the refusal with cause and detail.
 pub fn text<T>(outcome: &Result<T, Refusal>, counts: impl Fn(&T) -> String) -> String {
@@ -19,8 +19,8 @@ pub fn text<T>(outcome: &Result<T, Refusal>, counts: impl Fn(&T) -> String) -> S
 }
 
 /// The counts of a store.
-pub fn counts(elements: u64, bytes: u64) -> String {
-    format!("  active elements {elements}, bytes moved {bytes}\n")
+pub fn counts(stored: &Stored) -> String {
+    format!("  active elements {}, bytes moved {}\n", stored.elements, stored.bytes)
 }
 
 /// What a refusal is about, its number, and its address.
@@ -39,6 +39,17 @@ pub fn detail_json<T>(outcome: &Result<T, Refusal>) -> Json {
         Json::Object(vec![(what, number.into()), ("address", numbers::address(address).into())])
     };
     detail.map(members).into()
+}
+
+/// The detail and the counts of a store in JSON.
+pub fn store_members(outcome: &Result<Stored, Refusal>) -> [(&'static str, Json); 3] {
+    let none = Stored { elements: 0, bytes: 0, length: 0 };
+    let Stored { elements, bytes, .. } = outcome.unwrap_or(none);
+    [
+        ("detail", detail_json(outcome)),
+        ("active_elements", elements.into()),
+        ("bytes_moved", bytes.into()),
+    ]
 }
 
 /// The members that a verdict has in JSON.

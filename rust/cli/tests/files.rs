@@ -74,8 +74,8 @@ fn stores_that_are_changed() {
         for _ in 0..100 {
             let mut text = text.clone();
             for _ in 0..1 + random.below(4) {
-                let place = random.below(text.len());
-                text[place] = letters[random.below(letters.len())];
+                let index = random.below(text.len());
+                text[index] = letters[random.below(letters.len())];
             }
             answers(&folder, "run --json input", &text);
         }

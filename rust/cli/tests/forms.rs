@@ -48,8 +48,8 @@ fn predicates(register: &[u8]) -> Vec<String> {
 #[test]
 fn registers() {
     for vb in [16, 32, 64, 128, 256] {
-        let z: Vec<u8> = (0..vb).map(|place| (place * 37 + vb / 16) as u8).collect();
-        let p: Vec<u8> = (0..vb / 8).map(|place| (place * 89 + 0x35) as u8).collect();
+        let z: Vec<u8> = (0..vb).map(|index| (index * 37 + vb / 16) as u8).collect();
+        let p: Vec<u8> = (0..vb / 8).map(|index| (index * 89 + 0x35) as u8).collect();
         let start = format!("word = {WORD}\nvb = {vb}\nflags = sve2p1\nx29 = 1\nz30.q = 0x10 ...");
         let mut answers = Vec::new();
         for z in vectors(&z) {

@@ -66,9 +66,9 @@ fn made_files() -> PathBuf {
     let folder = Path::new(env!("CARGO_TARGET_TMPDIR")).join("golden");
     let _ = fs::remove_dir_all(&folder);
     fs::create_dir_all(&folder).unwrap();
-    let changed = |place: usize, byte: u8| {
+    let changed = |index: usize, byte: u8| {
         let mut patch = *PATCH;
-        patch[place] = byte;
+        patch[index] = byte;
         patch
     };
     let touching = changed(16, 0x02);

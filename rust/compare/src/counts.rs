@@ -23,8 +23,8 @@ impl Counts {
     /// Counts a number in a row; others than the row's count for nothing.
     pub fn hit(&mut self, row: usize, number: Option<u64>) {
         let Row { numbers, counts, .. } = &mut self.0[row];
-        if let Some(place) = numbers.iter().position(|&one| Some(one) == number) {
-            counts[place] += 1;
+        if let Some(index) = numbers.iter().position(|&one| Some(one) == number) {
+            counts[index] += 1;
         }
     }
 

@@ -2,8 +2,9 @@
 
 use crate::patterns::CLASSES;
 use crate::random::Random;
-use crate::reference::{encoded, Outcome, Reference, CLASS, DONE};
+use crate::reference::{encoded, Outcome, Reference, CLASS};
 use crate::report::{name, Report};
+use crate::verdicts::DONE;
 use crate::{model_decode, model_encode};
 use starshackle::Fields;
 use std::sync::atomic::{AtomicU32, Ordering};

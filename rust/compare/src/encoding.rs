@@ -3,8 +3,9 @@
 use crate::model_encode;
 use crate::patterns::CLASSES;
 use crate::random::Random;
-use crate::reference::{Reference, DONE};
+use crate::reference::Reference;
 use crate::report::{name, Report};
+use crate::verdicts::DONE;
 use starshackle::{Fields, WORD};
 
 /// Combinations that are made at random.
@@ -68,7 +69,7 @@ impl Comparison<'_> {
 /// Small numbers and powers of two, and small numbers that a cut to fewer bits would give.
 fn edges() -> Vec<u64> {
     let mut edges: Vec<u64> = (0..=SMALL).chain((1..=SMALL).map(u64::wrapping_neg)).collect();
-    for power in (0..64).map(|place| 1u64 << place) {
+    for power in (0..64).map(|bit| 1u64 << bit) {
         edges.extend([power - 1, power, power + 1]);
     }
     for width in [8, 16, 32] {

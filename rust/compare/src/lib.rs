@@ -6,13 +6,13 @@
 mod counts;
 pub mod decoding;
 pub mod encoding;
-pub mod making;
 pub mod patches;
 mod patterns;
 pub mod random;
 pub mod reference;
 pub mod report;
-pub mod running;
+pub mod storing;
+pub mod verdicts;
 mod workers;
 
 use reference::Outcome;
@@ -20,6 +20,9 @@ use starshackle::Fields;
 
 /// What every answer holds before a call, so that an entry left alone shows.
 pub const GARBAGE: u64 = 0xD1D2_D3D4_D5D6_D7D8;
+
+/// The longest window, in bytes.
+pub const LONGEST: usize = 65_536;
 
 /// The model's decoder, its fields filled with garbage beforehand.
 #[inline]

@@ -5,7 +5,7 @@
 use compare::decoding::{self, Extent};
 use compare::reference::{self, Reference};
 use compare::report::{self, Report};
-use compare::{encoding, making, patches, running};
+use compare::{encoding, patches, storing};
 use std::io::{self, BufWriter, Write};
 use std::process::ExitCode;
 
@@ -16,12 +16,10 @@ usage: compare --texts BYTE
   print each word of a class with this top byte: the word, its class, its assembly text
 usage: compare --patches [STRINGS [SEED]] [--threads N]
   compare judging and applying patches on random strings
-usage: compare --run [STORES] [--threads N]
-  compare running on random stores
+usage: compare --stores [STORES] [--threads N]
+  compare stores, run and made into patches in one call, on random inputs
 usage: compare --store NUMBER
-  compare running, and making a patch, on the random store with this number
-usage: compare --make [STORES] [--threads N]
-  compare making patches on random stores";
+  compare the random store with this number";
 
 /// Threads that compare where no number is given.
 const THREADS: usize = 2;
@@ -31,9 +29,8 @@ enum Task {
     Compare { extent: Extent, threads: usize },
     Texts { top: u8 },
     Patches { strings: u64, seed: u64, threads: usize },
-    Run { stores: u64, threads: usize },
+    Stores { stores: u64, threads: usize },
     Store { number: u64 },
-    Make { stores: u64, threads: usize },
 }
 
 fn main() -> ExitCode {
@@ -60,11 +57,9 @@ fn task(arguments: &[&str]) -> Option<Task> {
         ["--sample"] => Task::Compare { extent: Extent::Sample, threads },
         ["--texts", top] => Task::Texts { top: u8::from_str_radix(top, 16).ok()? },
         ["--patches", numbers @ ..] => patches_task(numbers, threads)?,
-        ["--run"] => Task::Run { stores: running::STORES, threads },
-        ["--run", stores] => Task::Run { stores: stores.parse().ok()?, threads },
+        ["--stores"] => Task::Stores { stores: storing::STORES, threads },
+        ["--stores", stores] => Task::Stores { stores: stores.parse().ok()?, threads },
         ["--store", number] => Task::Store { number: number.parse().ok()? },
-        ["--make"] => Task::Make { stores: making::STORES, threads },
-        ["--make", stores] => Task::Make { stores: stores.parse().ok()?, threads },
         _ => return None,
     })
 }
@@ -86,12 +81,8 @@ fn perform(task: Task) -> ExitCode {
         Task::Compare { extent, threads } => compare(&report, extent, threads),
         Task::Texts { top } => return listed(texts(top)),
         Task::Patches { strings, seed, threads } => patches::run(&report, strings, seed, threads),
-        Task::Run { stores, threads } => running::run(&report, stores, threads),
-        Task::Store { number } => {
-            running::one(&report, number);
-            making::one(&report, number);
-        }
-        Task::Make { stores, threads } => making::run(&report, stores, threads),
+        Task::Stores { stores, threads } => storing::run(&report, stores, threads),
+        Task::Store { number } => storing::one(&report, number),
     }
     let (passed, text) = match (report.differences(), report.misses()) {
         (0, 0) => (ExitCode::SUCCESS, "no difference"),
@@ -122,10 +113,7 @@ fn compare(report: &Report, extent: Extent, threads: usize) {
         patches::run(report, patches::STRINGS, patches::SEED, threads);
     }
     if !report.is_full() {
-        running::run(report, running::STORES, threads);
-    }
-    if !report.is_full() {
-        making::run(report, making::STORES, threads);
+        storing::run(report, storing::STORES, threads);
     }
 }
 

@@ -1,11 +1,8 @@
 //! A decoder and an encoder made from the patterns alone.
 
 use crate::patterns::{allows, Class, CLASSES};
+use crate::verdicts::{BAD_FIELDS, DONE, UNDEFINED};
 use starshackle::{Answer, Fields, WORD};
-
-pub const DONE: u64 = 0;
-pub const UNDEFINED: u64 = 4;
-pub const BAD_FIELDS: u64 = 11;
 
 /// A verdict and the numbers that come with it.
 #[derive(Clone, Copy, Debug, PartialEq, Eq)]

@@ -1,6 +1,7 @@
 //! Differences between the model and what it is compared with.
 
-use crate::reference::{Outcome, Reference, DONE};
+use crate::reference::{Outcome, Reference};
+use crate::verdicts::DONE;
 use starshackle::{assembly, Store};
 use std::sync::atomic::{AtomicUsize, Ordering};
 
@@ -71,6 +72,17 @@ pub fn answers<const N: usize>(model: &Outcome<N>, right: &Outcome<N>) -> String
     format!("  model {}\n  right {}", line(model), line(right))
 }
 
+/// Where bytes differ first, counted from the one behind `margin`; empty where they don't.
+pub fn first_difference(name: &str, model: &[u8], right: &[u8], margin: usize) -> String {
+    match model.iter().zip(right).position(|(model, right)| model != right) {
+        None => String::new(),
+        Some(index) => {
+            let (at, model, right) = (index as i64 - margin as i64, model[index], right[index]);
+            format!("\n  {name} differs from byte {at} on: model {model:02X}, right {right:02X}")
+        }
+    }
+}
+
 /// A word as a number and as Arm's assembly text.
 pub fn name(reference: &Reference, word: u32) -> String {
     let text = text(reference, word).unwrap_or_else(|| "of no class".to_string());
@@ -81,4 +93,16 @@ pub fn name(reference: &Reference, word: u32) -> String {
 pub fn text(reference: &Reference, word: u32) -> Option<String> {
     let decoded = reference.decode(word);
     (decoded.verdict == DONE).then(|| assembly::text(&Store::from(decoded.numbers)))?
+}
+
+#[cfg(test)]
+mod tests {
+    use super::*;
+
+    #[test]
+    fn bytes_that_differ() {
+        assert_eq!(first_difference("z", &[1, 2], &[1, 2], 0), "");
+        let text = first_difference("memory", &[1, 2, 3], &[1, 4, 3], 2);
+        assert_eq!(text, "\n  memory differs from byte -1 on: model 02, right 04");
+    }
 }

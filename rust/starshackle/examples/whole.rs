@@ -1,9 +1,9 @@
-//! Document 01's whole example: runs a store, makes its patch, and applies that to another window.
+//! Document 01's whole example: runs a store and applies its patch to another window.
 //!
 //!     cargo run --release --example whole
 
-use starshackle::{assembly, decode, element, elements, run};
-use starshackle::{Element, Flags, Machine, Patch, Window};
+use starshackle::{assembly, decode, element, elements, store};
+use starshackle::{Element, Flags, Machine, Patch, Window, LARGEST_STORE_PATCH};
 use std::error::Error;
 
 /// Vectors of 16 bytes: four elements of 32 bits.
@@ -28,19 +28,20 @@ fn main() -> Result<(), Box<dyn Error>> {
         println!("element {number}: active {active}, {address:X}h");
     }
 
-    let mut memory = [0; LENGTH];
-    let ran = run(&machine, Window { base: BASE, memory: &mut memory }, WORD)?;
-    println!("run: {} elements, {} bytes: {memory:02X?}", ran.elements, ran.bytes);
+    let (mut memory, mut buffer) = ([0; LENGTH], [0; LARGEST_STORE_PATCH]);
+    let window = Window { base: BASE, memory: &mut memory };
+    let done = store(&machine, window, WORD, &mut buffer)?;
+    println!("done: {} elements, {} bytes: {memory:02X?}", done.elements, done.bytes);
 
-    let patch = Patch::of_store(&machine, BASE, LENGTH as u64, WORD)?;
-    println!("patch of {} bytes", patch.as_bytes().len());
+    let patch = Patch::read(&buffer[..done.length])?;
+    println!("patch of {} bytes", done.length);
     for run in patch.runs() {
         println!("  {:02X?} at {:X}h", run.bytes, run.address);
     }
 
     let mut patched = [0; LENGTH];
     patch.apply(Window { base: BASE, memory: &mut patched })?;
-    assert_eq!(patched, memory, "applying leaves what running leaves");
+    assert_eq!(patched, memory, "applying the patch leaves what the store leaves");
     println!("applied: {patched:02X?}");
     Ok(())
 }

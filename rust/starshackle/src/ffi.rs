@@ -3,8 +3,7 @@
 //! Nothing proves that these declarations are those of the library's source. `tests/python` compares
 //! the texts.
 
-use crate::run::{Machine, Window};
-use crate::{Answer, Fields};
+use crate::{Answer, Fields, Machine, StoreAnswer, Window};
 
 extern "C" {
     fn starshackle_decode(word: u32, fields: *mut Fields) -> u64;
@@ -50,7 +49,7 @@ extern "C" {
 
 /// Judges whether bytes are a patch, writes all of `answer` and returns the verdict's number. The
 /// entries: in a refusal, how many runs were whole and acceptable, and where they end; for a patch,
-/// its runs and payload bytes in the third and fourth place; 0 elsewhere.
+/// its runs and payload bytes in the third and fourth entry; 0 elsewhere.
 ///
 /// ```
 /// let mut answer = [0; 5];
@@ -82,7 +81,7 @@ pub fn apply_numbers(base: u64, memory: &mut [u8], patch: &[u8], answer: &mut An
 }
 
 extern "C" {
-    fn starshackle_run(
+    fn starshackle_store(
         vb: usize,
         flags: u64,
         x: *const [u64; 31],
@@ -95,7 +94,9 @@ extern "C" {
         memory: *mut u8,
         memory_len: usize,
         word: u32,
-        answer: *mut Answer,
+        patch: *mut u8,
+        patch_len: usize,
+        answer: *mut StoreAnswer,
     ) -> u64;
     fn starshackle_element(
         vb: usize,
@@ -111,34 +112,46 @@ extern "C" {
     ) -> u64;
 }
 
-/// Runs a word's store over the window, writes all of `answer` and returns the verdict's number.
-/// The entries: the element of the detail, its address, active elements, bytes, 0.
+/// Runs a word's store over the window and makes its patch, writes all of `answer` and returns the
+/// verdict's number. The entries: the element of the detail, its address, active elements, bytes
+/// moved, the patch's length, 0. Where it is done, the patch stands in the first bytes of `patch`;
+/// other bytes stay as they were.
 ///
 /// ```
-/// use starshackle::{run_numbers, Machine, Window};
+/// use starshackle::{store_numbers, Flags, Machine, Window};
 ///
+/// // Nothing is active.
+/// let (z, p) = ([0; 32 * 16], [0; 2 * 16]);
+/// let machine = Machine { vb: 16, flags: Flags::SVE, z: &z, p: &p, ..Machine::default() };
 /// let window = Window { base: 0, memory: &mut [] };
-/// let mut answer = [1; 5];
-/// assert_eq!(run_numbers(&Machine::default(), window, 0, &mut answer), 1); // VB is 0
-/// assert_eq!(answer, [0; 5]);
+/// let (mut patch, mut answer) = ([0; 4], [1; 6]);
+/// assert_eq!(store_numbers(&machine, window, 0xE442_8001, &mut patch, &mut answer), 0);
+/// assert_eq!((&patch, answer), (b"PE\0\0", [0, 0, 0, 0, 4, 0]));
 /// ```
-pub fn run_numbers(machine: &Machine, window: Window, word: u32, answer: &mut Answer) -> u64 {
+pub fn store_numbers(
+    machine: &Machine,
+    window: Window,
+    word: u32,
+    patch: &mut [u8],
+    answer: &mut StoreAnswer,
+) -> u64 {
     let Machine { vb, flags, ref x, sp, z, p } = *machine;
     let Window { base, memory } = window;
-    let (z_len, p_len, memory_len) = (z.len(), p.len(), memory.len());
-    let (z, p, memory) = (z.as_ptr(), p.as_ptr(), memory.as_mut_ptr());
+    let (z_len, p_len, memory_len, patch_len) = (z.len(), p.len(), memory.len(), patch.len());
+    let (z, p, memory, patch) = (z.as_ptr(), p.as_ptr(), memory.as_mut_ptr(), patch.as_mut_ptr());
     // SAFETY: each buffer comes with its length, and the library stays within it, so that the
-    // pointer of an empty one is never followed. It writes to the memory and the five entries
-    // alone, which nothing else refers to, and keeps no pointer.
+    // pointer of an empty one is never followed. It writes to the memory, the patch and the six
+    // entries alone, which overlap neither each other nor what it reads, and keeps no pointer.
     unsafe {
-        starshackle_run(
-            vb, flags.0, x, sp, z, z_len, p, p_len, base, memory, memory_len, word, answer,
+        starshackle_store(
+            vb, flags.0, x, sp, z, z_len, p, p_len, base, memory, memory_len, word, patch,
+            patch_len, answer,
         )
     }
 }
 
 /// Tells what an element of a word's store is, writes all of `answer` and returns the verdict's
-/// number. The entries: whether it is active, its address, the place of its first byte in the Z
+/// number. The entries: whether it is active, its address, the index of its first byte in the Z
 /// buffer, its bytes, and how many elements the store has.
 ///
 /// ```
@@ -154,60 +167,6 @@ pub fn element_numbers(machine: &Machine, word: u32, number: u64, answer: &mut A
     let Machine { vb, ref x, sp, z, p, .. } = *machine;
     let (z_len, p_len) = (z.len(), p.len());
     let (z, p) = (z.as_ptr(), p.as_ptr());
-    // SAFETY: as above, with no memory.
+    // SAFETY: as above; it writes to the five entries alone.
     unsafe { starshackle_element(vb, x, sp, z, z_len, p, p_len, word, number, answer) }
-}
-
-extern "C" {
-    fn starshackle_make_patch(
-        vb: usize,
-        flags: u64,
-        x: *const [u64; 31],
-        sp: u64,
-        z: *const u8,
-        z_len: usize,
-        p: *const u8,
-        p_len: usize,
-        base: u64,
-        length: u64,
-        word: u32,
-        patch: *mut u8,
-        patch_len: usize,
-        answer: *mut Answer,
-    ) -> u64;
-}
-
-/// Makes the patch of a word's store over a window of `length` bytes from `base` on, which need not
-/// be there, writes all of `answer` and returns the verdict's number. The entries: the element of
-/// the detail, its address, active elements, bytes moved, the patch's length. Where it is done, the
-/// patch stands in the first bytes of `patch`; other bytes stay as they were.
-///
-/// ```
-/// use starshackle::{make_patch_numbers, Flags, Machine};
-///
-/// let (z, p) = ([0; 32 * 16], [0; 2 * 16]);
-/// let machine = Machine { vb: 16, flags: Flags::SVE, z: &z, p: &p, ..Machine::default() };
-/// let (mut patch, mut answer) = ([0; 4], [0; 5]);
-/// assert_eq!(make_patch_numbers(&machine, 0, 0, 0xE442_8001, &mut patch, &mut answer), 0);
-/// assert_eq!((&patch, answer), (b"PE\0\0", [0, 0, 0, 0, 4]));
-/// ```
-pub fn make_patch_numbers(
-    machine: &Machine,
-    base: u64,
-    length: u64,
-    word: u32,
-    patch: &mut [u8],
-    answer: &mut Answer,
-) -> u64 {
-    let Machine { vb, flags, ref x, sp, z, p } = *machine;
-    let (z_len, p_len, patch_len) = (z.len(), p.len(), patch.len());
-    let (z, p, patch) = (z.as_ptr(), p.as_ptr(), patch.as_mut_ptr());
-    // SAFETY: each buffer comes with its length, and the library stays within it, so that the
-    // pointer of an empty one is never followed. It writes to the patch and the five entries alone,
-    // which nothing else refers to, and keeps no pointer. The window is two numbers.
-    unsafe {
-        starshackle_make_patch(
-            vb, flags.0, x, sp, z, z_len, p, p_len, base, length, word, patch, patch_len, answer,
-        )
-    }
 }

@@ -8,19 +8,18 @@
 //! | call | what it answers |
 //! |---|---|
 //! | [`decode`], [`encode`] | the store that a word names, and the word that names a store |
-//! | [`run()`] | what a store does to a window of memory |
+//! | [`store()`] | a store's effect on a window of memory, and its patch: that effect as bytes |
 //! | [`element`], [`elements`] | what one element of a store is, and how many there are |
-//! | [`make_patch`], [`Patch::of_store`] | a store's net effect as a string of bytes |
-//! | [`judge`], [`Patch::read`] | whether bytes are such a string |
+//! | [`judge`], [`Patch::read`] | whether bytes are a patch |
 //! | [`apply`], [`Patch::apply`] | what a patch does to a window of memory |
 //!
 //! # Document 01's whole example
 //!
 //! Four bytes are scattered over a window of eight. Two go to one address, where the later stays.
-//! Applying the store's patch leaves what running the store leaves.
+//! Applying the store's patch leaves what the store leaves.
 //!
 //! ```
-//! use starshackle::{run, Flags, Machine, Patch, Ran, Window};
+//! use starshackle::{store, Flags, Machine, Patch, Stored, Window, LARGEST_STORE_PATCH};
 //!
 //! const VB: usize = 16; // vectors of 16 bytes: four elements of 32 bits
 //! const WORD: u32 = 0xE442_8001; // st1b { z1.s }, p0, [x0, z2.s, uxtw]
@@ -35,13 +34,13 @@
 //! x[0] = 0x1000; // the base
 //! let machine = Machine { vb: VB, flags: Flags::SVE, x, sp: 0, z: &z, p: &p };
 //!
-//! let mut memory = [0; 8];
+//! let (mut memory, mut buffer) = ([0; 8], [0; LARGEST_STORE_PATCH]);
 //! let window = Window { base: 0x1000, memory: &mut memory };
-//! assert_eq!(run(&machine, window, WORD), Ok(Ran { elements: 4, bytes: 4 }));
+//! let done = store(&machine, window, WORD, &mut buffer)?;
+//! assert_eq!(done, Stored { elements: 4, bytes: 4, length: 31 });
 //! assert_eq!(memory, [0xA1, 0xA3, 0, 0, 0, 0xA4, 0, 0]);
 //!
-//! let patch = Patch::of_store(&machine, 0x1000, 8, WORD)?;
-//! assert_eq!(patch.as_bytes().len(), 31);
+//! let patch = Patch::read(&buffer[..done.length])?;
 //! let mut patched = [0; 8];
 //! patch.apply(Window { base: 0x1000, memory: &mut patched })?;
 //! assert_eq!(patched, memory);
@@ -52,32 +51,43 @@
 #![warn(missing_docs)]
 
 pub mod assembly;
+mod element;
+#[cfg(test)]
+mod example;
 #[allow(unsafe_code)]
 mod ffi;
-pub mod make;
+mod flags;
+mod machine;
 pub mod patch;
-pub mod run;
 mod store;
 mod verdict;
+mod window;
+mod word;
 
-pub use ffi::{apply_numbers, decode_fields, encode_fields, judge_numbers};
-pub use ffi::{element_numbers, make_patch_numbers, run_numbers};
-pub use make::{make_patch, Made};
+pub use element::{element, elements, Element};
+pub use ffi::{apply_numbers, decode_fields, element_numbers, encode_fields};
+pub use ffi::{judge_numbers, store_numbers};
+pub use flags::Flags;
+pub use machine::Machine;
 pub use patch::{apply, judge, Applied, Judged, NoPatch, Patch};
-pub use run::{element, elements, run, Element, Flags, Machine, Ran, Window};
-pub use store::{decode, encode, Extension, Store};
+pub use store::{store, Stored};
 pub use verdict::{Refusal, Verdict};
+pub use window::Window;
+pub use word::{decode, encode, Extension, Store};
 
 /// A decoded store as numbers: class, index, extension, predicate, base, register, multiple, 0.
 pub type Fields = [u64; 8];
 
-/// The numbers that a call answers besides its verdict.
+/// The numbers that a call other than [`store_numbers`] answers besides its verdict.
 pub type Answer = [u64; 5];
+
+/// The numbers that [`store_numbers`] answers besides its verdict.
+pub type StoreAnswer = [u64; 6];
 
 /// The entry of an encoder's [`Answer`] that holds the word.
 pub const WORD: usize = 4;
 
-/// No store's patch is longer, in bytes: a buffer for [`make_patch`] with room for all.
+/// No store's patch is longer, in bytes: a buffer for [`store()`] with room for all.
 pub const LARGEST_STORE_PATCH: usize = 1_040;
 
 /// No patch is longer, in bytes.

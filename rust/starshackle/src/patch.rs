@@ -90,14 +90,16 @@ pub fn judge(patch: &[u8]) -> Result<Judged, NoPatch> {
 /// ```
 pub fn apply(window: Window, patch: &[u8]) -> Result<Applied, Refusal> {
     let mut answer = [0; 5];
-    match apply_numbers(window.base, window.memory, patch, &mut answer) {
-        0 => Ok(Applied { runs: answer[2], bytes: answer[3] }),
-        verdict => Err(Refusal::answered(verdict, answer)),
+    let verdict = apply_numbers(window.base, window.memory, patch, &mut answer);
+    let [run, address, runs, bytes, _] = answer;
+    match verdict {
+        0 => Ok(Applied { runs, bytes }),
+        verdict => Err(Refusal::answered(verdict, [run, address])),
     }
 }
 
-/// Bytes that the model has made or judged to be a patch. Two are equal exactly when they write
-/// the same bytes to the same addresses.
+/// Bytes that the model has judged to be a patch. Two are equal exactly when they write the same
+/// bytes to the same addresses.
 ///
 /// ```
 /// use starshackle::patch::{Patch, Run};
@@ -111,10 +113,6 @@ pub fn apply(window: Window, patch: &[u8]) -> Result<Applied, Refusal> {
 pub struct Patch(Vec<u8>);
 
 impl Patch {
-    pub(crate) fn made(bytes: Vec<u8>) -> Patch {
-        Patch(bytes)
-    }
-
     /// Takes bytes that are a patch.
     ///
     /// ```
@@ -213,7 +211,7 @@ impl<'a> Iterator for Runs<'a> {
 }
 
 /// The runs from the front that [`judge`] accepts: all of a patch, and of other bytes those before
-/// the place where they stop being one.
+/// [`NoPatch::offset`].
 ///
 /// ```
 /// use starshackle::patch::runs;
@@ -230,13 +228,7 @@ pub fn runs(bytes: &[u8]) -> Runs<'_> {
 #[cfg(test)]
 mod tests {
     use super::*;
-
-    /// A1 A3 at 1000h, A4 at 1005h.
-    const PATCH: [u8; 31] = [
-        0x50, 0x52, 0x00, 0x10, 0, 0, 0, 0, 0, 0, 2, 0, 0xA1, 0xA3, //
-        0x50, 0x52, 0x05, 0x10, 0, 0, 0, 0, 0, 0, 1, 0, 0xA4, //
-        0x50, 0x45, 2, 0,
-    ];
+    use crate::example::PATCH;
 
     fn apply_at(base: u64, memory: &mut [u8], patch: &[u8]) -> Result<Applied, Refusal> {
         apply(Window { base, memory }, patch)

@@ -1,140 +1,148 @@
-//! Words and decoded stores.
+//! Running a store over a window of memory, and making its patch.
 
-use crate::{decode_fields, encode_fields, Fields, Refusal, WORD};
+use crate::{store_numbers, Machine, Refusal, Window};
 
-/// How a 32-bit offset becomes a 64-bit one.
+/// What a store that is done has written.
 #[derive(Clone, Copy, Debug, PartialEq, Eq, Hash)]
-pub enum Extension {
-    /// With zeros.
-    Uxtw,
-    /// With its sign.
-    Sxtw,
+pub struct Stored {
+    /// How many elements were active.
+    pub elements: u64,
+    /// How many bytes they moved. An address that two elements write counts twice.
+    pub bytes: u64,
+    /// How many bytes the patch has.
+    pub length: usize,
 }
 
-/// A store as its word names it. A field that the class lacks is 0.
+/// Runs the store that a word names and makes its patch: writes every active element to the window,
+/// lowest first, and the patch to the first bytes of `patch`, or nothing to either. Bytes behind
+/// the patch are as they came.
+///
+/// Answer and patch don't depend on the window's bytes, and applying the patch there leaves what
+/// the store leaves. Who wants only the patch lends a scratch window, with anything in it; who wants
+/// only the memory lends a scratch buffer of [`LARGEST_STORE_PATCH`](crate::LARGEST_STORE_PATCH)
+/// bytes.
 ///
 /// ```
-/// use starshackle::{decode, encode, Store};
+/// use starshackle::patch::{Patch, Run};
+/// use starshackle::{store, Flags, Machine, Refusal, Stored, Window};
 ///
-/// let store = Store { class: 12, index: 1, base: 2, register: 3, ..Store::default() };
-/// let word = encode(store)?;
-/// assert_eq!(word, 0xE421_2043); // st1q { z3.q }, p0, [z2.d, x1]
-/// assert_eq!(decode(word), Ok(store));
-/// # Ok::<(), starshackle::Refusal>(())
-/// ```
-#[derive(Clone, Copy, Debug, Default, PartialEq, Eq, Hash)]
-pub struct Store {
-    /// The class, numbered from 1 to 12 as document 01 does.
-    pub class: u64,
-    /// Zm in classes 1 to 7, Rm in 8, 9 and 12.
-    pub index: u64,
-    /// The offsets' extension, in classes 1, 2, 5 and 6.
-    pub extension: Option<Extension>,
-    /// Pg; in classes 8 to 11 the counter's register less 8.
-    pub predicate: u64,
-    /// Rn, 31 for SP; in class 12 Zn.
-    pub base: u64,
-    /// Zt; in classes 8 to 11 the first of the registers.
-    pub register: u64,
-    /// The immediate in vectors, in classes 10 and 11.
-    pub multiple: i64,
-}
-
-/// The store that a word names; [`Refusal::Undefined`] when it is of no class. No flag is looked
-/// at.
+/// // st1d { z0.d, z8.d }, pn8, [x0]
+/// let mut z = [0; 32 * 16];
+/// z[..16].copy_from_slice(b"0123456789abcdef");
+/// z[8 * 16..9 * 16].copy_from_slice(b"ghijklmnopqrstuv");
+/// let mut p = [0; 2 * 16];
+/// p[8 * 2] = 0x38; // the first three elements of 64 bits
+/// let flags = Flags::SME2 | Flags::STREAMING;
+/// let machine = Machine { vb: 16, flags, z: &z, p: &p, ..Machine::default() };
 ///
-/// ```
-/// use starshackle::{decode, Refusal};
+/// let (mut memory, mut buffer) = ([b'.'; 28], [b'.'; 42]);
+/// let window = Window { base: 0, memory: &mut memory };
+/// let done = store(&machine, window, 0xA160_6000, &mut buffer)?;
+/// assert_eq!(done, Stored { elements: 3, bytes: 24, length: 40 });
+/// assert_eq!(&memory, b"0123456789abcdefghijklmn....");
 ///
-/// let store = decode(0xA16F_6000)?;
-/// assert_eq!((store.class, store.multiple), (10, -2));
-/// assert_eq!(decode(0xE420_8000), Err(Refusal::Undefined));
+/// let patch = Patch::read(&buffer[..done.length])?;
+/// let runs: Vec<Run> = patch.runs().collect();
+/// assert_eq!(runs, [Run { offset: 0, address: 0, bytes: b"0123456789abcdefghijklmn" }]);
+/// assert_eq!(&buffer[done.length..], b"..");
+///
+/// let window = Window { base: 0, memory: &mut memory[..20] };
+/// let fault = Refusal::Fault { element: 2, address: 16 };
+/// assert_eq!(store(&machine, window, 0xA160_6000, &mut buffer), Err(fault));
+///
+/// let window = Window { base: 0, memory: &mut memory };
+/// assert_eq!(store(&machine, window, 0xA160_6000, &mut buffer[..39]), Err(Refusal::NoRoom));
 /// # Ok::<(), Refusal>(())
 /// ```
-pub fn decode(word: u32) -> Result<Store, Refusal> {
-    let mut fields = [0; 8];
-    match decode_fields(word, &mut fields) {
-        0 => Ok(Store::from(fields)),
-        verdict => Err(Refusal::answered(verdict, [0; 5])),
-    }
-}
-
-/// The word that names a store; [`Refusal::Fields`] when there is none.
-///
-/// ```
-/// use starshackle::{encode, Refusal, Store};
-///
-/// let store = |multiple| Store { class: 10, multiple, ..Store::default() };
-/// assert_eq!(encode(store(-2)), Ok(0xA16F_6000));
-/// assert_eq!(encode(store(-1)), Err(Refusal::Fields));
-/// ```
-pub fn encode(store: Store) -> Result<u32, Refusal> {
-    let mut answer = [0; 5];
-    match encode_fields(&Fields::from(store), &mut answer) {
-        0 => Ok(u32::try_from(answer[WORD]).expect("a word has 32 bits")),
-        verdict => Err(Refusal::answered(verdict, answer)),
-    }
-}
-
-/// The store of fields that [`decode_fields`] answers.
-impl From<Fields> for Store {
-    fn from(fields: Fields) -> Store {
-        let [class, index, extension, predicate, base, register, multiple, _] = fields;
-        let extension = match extension {
-            1 => Some(Extension::Uxtw),
-            2 => Some(Extension::Sxtw),
-            _ => None,
-        };
-        let multiple = multiple as i64; // two's complement
-        Store { class, index, extension, predicate, base, register, multiple }
-    }
-}
-
-/// The fields that [`encode_fields`] takes.
-impl From<Store> for Fields {
-    fn from(store: Store) -> Fields {
-        let Store { class, index, extension, predicate, base, register, multiple } = store;
-        let extension = match extension {
-            None => 0,
-            Some(Extension::Uxtw) => 1,
-            Some(Extension::Sxtw) => 2,
-        };
-        let multiple = multiple as u64; // two's complement
-        [class, index, extension, predicate, base, register, multiple, 0]
+pub fn store(
+    machine: &Machine,
+    window: Window,
+    word: u32,
+    patch: &mut [u8],
+) -> Result<Stored, Refusal> {
+    let mut answer = [0; 6];
+    let verdict = store_numbers(machine, window, word, patch, &mut answer);
+    let [element, address, elements, bytes, length, _] = answer;
+    match verdict {
+        0 => Ok(Stored { elements, bytes, length: length as usize }),
+        verdict => Err(Refusal::answered(verdict, [element, address])),
     }
 }
 
 #[cfg(test)]
 mod tests {
     use super::*;
+    use crate::example::{machine, z, PATCH, SCATTER};
+    use crate::{apply, Applied, Flags, LARGEST_STORE_PATCH};
 
-    const STRIDED: Store = Store {
-        class: 10,
-        index: 0,
-        extension: None,
-        predicate: 0,
-        base: 0,
-        register: 0,
-        multiple: -2,
-    };
+    const DONE: Stored = Stored { elements: 4, bytes: 4, length: PATCH.len() };
+    /// A byte of a buffer before the call.
+    const OLD: u8 = 0x77;
 
-    #[test]
-    fn a_strided_store() {
-        assert_eq!(decode(0xA16F_6000), Ok(STRIDED));
-        assert_eq!(encode(STRIDED), Ok(0xA16F_6000));
+    fn store_at(machine: &Machine, memory: &mut [u8], patch: &mut [u8]) -> Result<Stored, Refusal> {
+        store(machine, Window { base: 0x1000, memory }, SCATTER, patch)
+    }
+
+    /// The whole example's vector registers, and those of its second form.
+    fn forms() -> [Vec<u8>; 2] {
+        let first = z([0xA1, 0xA2, 0xA3, 0xA4], [0, 1, 1, 5]);
+        [first, z([0xA3, 0xA1, 0x00, 0xA4], [1, 0, 5, 5])]
     }
 
     #[test]
-    fn a_scatter_store() {
-        let store = decode(0xE5A0_C3E0).unwrap();
-        assert_eq!((store.class, store.base), (1, 31));
-        assert_eq!(store.extension, Some(Extension::Sxtw));
-        assert_eq!(encode(store), Ok(0xE5A0_C3E0));
+    fn stores_that_are_done() {
+        for z in forms() {
+            for room in [PATCH.len(), PATCH.len() + 1, LARGEST_STORE_PATCH] {
+                let (mut memory, mut patch) = ([OLD; 8], vec![OLD; room]);
+                assert_eq!(store_at(&machine(&z), &mut memory, &mut patch), Ok(DONE));
+                assert_eq!(memory, [0xA1, 0xA3, OLD, OLD, OLD, 0xA4, OLD, OLD]);
+                assert_eq!(patch[..PATCH.len()], PATCH);
+                assert!(patch[PATCH.len()..].iter().all(|byte| *byte == OLD));
+            }
+        }
+    }
+
+    /// The patch is the same, and applied to any filling it leaves what the store leaves there.
+    #[test]
+    fn whatever_the_window_holds() {
+        let fillings = [[0x00; 8], [0xFF; 8], [0xA1, 0xA3, 0, 0, 0, 0xA4, 0, 0], *b"anything"];
+        for z in forms() {
+            for filling in fillings {
+                let (mut memory, mut patch) = (filling, PATCH.map(|byte| !byte));
+                assert_eq!(store_at(&machine(&z), &mut memory, &mut patch), Ok(DONE));
+                assert_eq!(patch, PATCH);
+                let mut patched = filling;
+                let window = Window { base: 0x1000, memory: &mut patched };
+                assert_eq!(apply(window, &patch), Ok(Applied { runs: 2, bytes: 3 }));
+                assert_eq!(patched, memory);
+            }
+        }
     }
 
     #[test]
-    fn refusals() {
-        assert_eq!(decode(0xE420_8000), Err(Refusal::Undefined));
-        assert_eq!(encode(Store { multiple: 1, ..STRIDED }), Err(Refusal::Fields));
+    fn stores_that_are_refused() {
+        let [z, _] = forms();
+        let good = machine(&z);
+        let refused = |machine: Machine, length: usize, room: usize| {
+            let (mut memory, mut patch) = (vec![OLD; length], vec![OLD; room]);
+            let refusal = store_at(&machine, &mut memory, &mut patch).unwrap_err();
+            assert!(memory.iter().chain(&patch).all(|byte| *byte == OLD), "{refusal}");
+            refusal
+        };
+        let (length, room) = (8, PATCH.len());
+        assert_eq!(refused(Machine { vb: 17, ..good }, length, room), Refusal::Length);
+        assert_eq!(refused(Machine { z: &[], ..good }, length, room), Refusal::Registers);
+        assert_eq!(refused(Machine { p: &[], ..good }, length, room), Refusal::Registers);
+        assert_eq!(refused(good, 65_537, room), Refusal::Window);
+        let sme2 = Machine { flags: Flags::SME2, ..good };
+        assert_eq!(refused(sme2, length, room), Refusal::Undefined);
+        let streaming = Machine { flags: Flags::SVE | Flags::STREAMING, ..good };
+        assert_eq!(refused(streaming, length, room), Refusal::Illegal);
+        let fault = |element, address| Refusal::Fault { element, address };
+        assert_eq!(refused(good, 5, room), fault(3, 0x1005));
+        assert_eq!(refused(good, 0, room), fault(0, 0x1000));
+        assert_eq!(refused(good, 5, 0), fault(3, 0x1005)); // before what is said of the room
+        assert_eq!(refused(good, length, room - 1), Refusal::NoRoom);
+        assert_eq!(refused(good, length, 0), Refusal::NoRoom);
     }
 }

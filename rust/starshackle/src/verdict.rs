@@ -1,6 +1,5 @@
 //! Verdicts: what every call ends with.
 
-use crate::Answer;
 use std::error::Error;
 use std::fmt::{self, Display, Formatter};
 
@@ -181,9 +180,9 @@ pub enum Refusal {
 }
 
 impl Refusal {
-    /// The refusal in a call's answer. That there is no other number is proved of the library.
-    pub(crate) fn answered(number: u64, answer: Answer) -> Refusal {
-        let [place, address, ..] = answer;
+    /// The refusal with this number. Its detail is an element or a run, and an address. That there
+    /// is no other number is proved of the library.
+    pub(crate) fn answered(number: u64, [lowest, address]: [u64; 2]) -> Refusal {
         match Verdict::numbered(number) {
             Some(Verdict::Length) => Refusal::Length,
             Some(Verdict::Registers) => Refusal::Registers,
@@ -191,10 +190,10 @@ impl Refusal {
             Some(Verdict::Undefined) => Refusal::Undefined,
             Some(Verdict::Illegal) => Refusal::Illegal,
             Some(Verdict::Stack) => Refusal::Stack,
-            Some(Verdict::Fault) => Refusal::Fault { element: place, address },
+            Some(Verdict::Fault) => Refusal::Fault { element: lowest, address },
             Some(Verdict::NoRoom) => Refusal::NoRoom,
             Some(Verdict::BadPatch) => Refusal::BadPatch,
-            Some(Verdict::Outside) => Refusal::Outside { run: place, address },
+            Some(Verdict::Outside) => Refusal::Outside { run: lowest, address },
             Some(Verdict::Fields) => Refusal::Fields,
             Some(Verdict::Done) | None => unreachable!("no refusal has the number {number}"),
         }
@@ -257,13 +256,13 @@ mod tests {
     #[test]
     fn refusals() {
         for (verdict, ..) in &VERDICTS[1..] {
-            let refusal = Refusal::answered(verdict.number(), [1, 2, 0, 0, 0]);
+            let refusal = Refusal::answered(verdict.number(), [1, 2]);
             assert_eq!(refusal.verdict(), *verdict);
         }
         let fault = Refusal::Fault { element: 1, address: 2 };
-        assert_eq!(Refusal::answered(7, [1, 2, 0, 0, 0]), fault);
+        assert_eq!(Refusal::answered(7, [1, 2]), fault);
         let outside = Refusal::Outside { run: 1, address: 2 };
-        assert_eq!(Refusal::answered(10, [1, 2, 0, 0, 0]), outside);
+        assert_eq!(Refusal::answered(10, [1, 2]), outside);
         assert!(outside.to_string().ends_with(": run 1 at 0x0000000000000002"));
     }
 }

@@ -1,10 +1,10 @@
--- `equal`: byte by byte, behind a test of the lengths. Invariant: the bytes before i are the same. Assumes nothing.
+-- Of `equal`: the bytes passed are the same. Assumes nothing.
 use mathlib.Core.Path.{_≡_, refl, sym, ap, _∙_}
 use Prim.Native.Nat.{ℕ, _-_, _<_}
 use native.Mathlib.Omega.{arith}
 use lib.ListN.{length, getD}
 use lib.Seq.{ext-getD}
-use Rattle.writes.proofs.Order.{three, absurdly}
+use Rattle.window.proofs.Order.{three, absurdly}
 use Rattle.demands.proofs.equal.Statement.{statement}
 use Rattle.demands.proofs.equal.Tie as tie
 
@@ -37,20 +37,20 @@ loop-less c = omega arith
 
 loop-again : tie.Need-loop-again Inv-loop μ-loop
 loop-again c =
-    let t = c .before .before .before .before in
-    let l = t .loop in
-    let g = t .before .before .args in
+    let l = c .before .before .before .before in
+    let g = l .before .before .args in
     λ j h.
-    three j (l .i) (λ q. l .inv j q)
+    three j (l .loop .i) (λ q. l .loop .inv j q)
     (λ q. ap (λ (k : ℕ). getD (g .a .now) k 0) q ∙ c .if2 .left ∙ ap (λ (k : ℕ). getD (g .b .now) k 0) (sym q))
     (λ q. absurd (omega arith))
 
 returns-3 : tie.Need-returns-3 Inv-loop μ-loop
 returns-3 c =
-    let t = c .before .before in
-    let g = t .before .args in
-    let i = c .before .loop .inv in
-    (λ _. ext-getD 0 (g .a .now) (g .b .now) (t .if1 .left) (λ j h. i j (omega (arith, c .loop-test .left))), λ e. refl)
+    let l = c .before in
+    let g = l .before .before .args in (
+      (λ t. ext-getD 0 (g .a .now) (g .b .now) (l .before .if1 .left) (λ j h. l .loop .inv j (omega (arith, c .loop-test .left)))),
+      (λ e. refl),
+    )
 
 pub equal-spec : {M : Type 1} → statement M
 equal-spec =

@@ -1,4 +1,4 @@
--- `bit`: the byte that holds it, and its place there. No loop. Assumes nothing.
+-- `bit`: the byte that holds it, and its index there. No loop. Assumes nothing.
 use Rattle.elements.proofs.Leaves.{bit-is}
 use borrow.Author.Needs.{needs}
 use Rattle.elements.proofs.bit.Statement.{statement}

@@ -2,7 +2,7 @@
 use Prim.Native.Nat.{_+_, _/_, _^_, _<_}
 use mathlib.Core.Path.{_≡_}
 use native.Mathlib.Omega.{arith}
-use Rattle.elements.specs.Plans.{borderOf}
+use Rattle.elements.specs.Accesses.{borderOf}
 use Rattle.elements.proofs.Ranges.{border-is}
 use borrow.Author.Needs.{needs}
 use Rattle.elements.proofs.border_of.Statement.{statement}

@@ -1,10 +1,10 @@
 -- `copy_active`. The loop's invariant is `Copied`: the active elements below e, those of the registers passed, are copied and counted.
 -- The measure is how many registers are left. Assumes nothing.
-use mathlib.Core.Path.{_≡_, refl, sym, _∙_}
+use mathlib.Core.Path.{_≡_, sym, _∙_}
 use Prim.Native.Nat.{_+_, _-_, _*_, _≤_}
 use native.Mathlib.Omega.{arith}
-use Rattle.elements.specs.Plans.{PartOf}
-use Rattle.elements.specs.declared.StridedPlan.{StridedPlan}
+use Rattle.elements.specs.Accesses.{PartOf}
+use Rattle.elements.specs.declared.StridedAccess.{StridedAccess}
 use Rattle.elements.proofs.Moving.{high-small, all-small, row-small, part-out}
 use Rattle.elements.proofs.Moving.{Copied, copied-first, copied-off, copied-part, copied-on, copied-done}
 use borrow.Author.Needs.{needs}
@@ -12,10 +12,10 @@ use Rattle.elements.proofs.copy_active.Statement.{statement}
 use Rattle.elements.proofs.copy_active.Tie as tie
 
 abbrev Inv-loop : tie.InvT-loop
-Inv-loop s vb z out₀ nreg size elements₀ bytes₀ e₀ r₀ out elements bytes e r = Copied s vb z out elements bytes e r
+Inv-loop s vb z out₀ nreg elements₀ bytes₀ e₀ r₀ out elements bytes e r = Copied s vb z out elements bytes e r
 
 abbrev μ-loop : tie.MeasureT-loop
-μ-loop s vb z out₀ nreg size elements₀ bytes₀ e₀ r₀ out elements bytes e r = nreg - r
+μ-loop s vb z out₀ nreg elements₀ bytes₀ e₀ r₀ out elements bytes e r = nreg - r
 
 loop-holds : tie.Need-loop-holds Inv-loop μ-loop
 loop-holds c = let a = c .before .before in copied-first (a .pre .0) (a .args .z .now) (a .pre .1 .0) (a .args .out .now) (a .pre .1 .1)
@@ -40,11 +40,11 @@ lower-requires c κs = search needs
 abbrev turn : tie.After-lower Inv-loop μ-loop → tie.In-loop Inv-loop μ-loop
 turn c = c .before .before
 
-abbrev plan : tie.After-lower Inv-loop μ-loop → StridedPlan
-plan c = entry (turn c) .args .s
+abbrev access : tie.After-lower Inv-loop μ-loop → StridedAccess
+access c = entry (turn c) .args .s
 
 ends : (c : tie.After-lower Inv-loop μ-loop)
-    → c .lower .result ≡ plan c .high - (plan c .high - (turn c .before .loop .r + 1) * plan c .per)
+    → c .lower .result ≡ access c .high - (access c .high - (turn c .before .loop .r + 1) * access c .per)
 ends c = omega (arith, c .lower .ensures)
 
 -- ---- it has none
@@ -64,7 +64,7 @@ loop-again c =
 -- ---- it is copied
 
 part : (c : tie.Else1 Inv-loop μ-loop)
-    → PartOf (plan (c .before)) (turn (c .before) .before .loop .r) (turn (c .before) .before .loop .e) (c .before .lower .result)
+    → PartOf (access (c .before)) (turn (c .before) .before .loop .r) (turn (c .before) .before .loop .e) (c .before .lower .result)
 part c =
     let k = turn (c .before) in
     let a = entry k in
@@ -72,8 +72,8 @@ part c =
 
 -- with it few bytes are copied
 few : (c : tie.Else1 Inv-loop μ-loop)
-    → (turn (c .before) .before .loop .e - plan (c .before) .low) * plan (c .before) .size
-    + (c .before .lower .result - turn (c .before) .before .loop .e) * plan (c .before) .size
+    → (turn (c .before) .before .loop .e - access (c .before) .low) * access (c .before) .size
+    + (c .before .lower .result - turn (c .before) .before .loop .e) * access (c .before) .size
     ≤ 1024 * 256
 few c =
     let k = turn (c .before) in
@@ -110,38 +110,44 @@ copy-part-requires c κs =
 abbrev parted : tie.After-slice-known2 Inv-loop μ-loop → tie.Else1 Inv-loop μ-loop
 parted c = c .before .before .before .before
 
-sub-elements : tie.Need-sub-elements Inv-loop μ-loop
-sub-elements c = omega (arith, part (parted c) .some)
+-- what was copied
+abbrev copied : tie.After-struct-known2 Inv-loop μ-loop → tie.After-slice-known2 Inv-loop μ-loop
+copied c = c .before
 
 add-elements : tie.Need-add-elements Inv-loop μ-loop
 add-elements c =
-    let k = turn (parted c .before) in
+    let k = turn (parted (copied c) .before) in
     let a = entry k in
-    let p = part (parted c) in
-    omega (arith, p .some, p .high, k .before .loop .inv .counted, high-small (a .args .s) (a .args .vb) (a .pre .0))
-
-sub-bytes : tie.Need-sub-bytes Inv-loop μ-loop
-sub-bytes c = omega (arith, part (parted c) .some)
-
-mul-bytes : tie.Need-mul-bytes Inv-loop μ-loop
-mul-bytes c = omega (arith, few (parted c))
+    let p = part (parted (copied c)) in
+    omega (
+      arith,
+      copied c .before .before .copy-part .ensures .0,
+      p .some,
+      p .high,
+      k .before .loop .inv .counted,
+      high-small (a .args .s) (a .args .vb) (a .pre .0),
+    )
 
 add-bytes : tie.Need-add-bytes Inv-loop μ-loop
-add-bytes c = omega (arith, few (parted c), turn (parted c .before) .before .loop .inv .weighed)
+add-bytes c =
+    let d = copied (c .before) in
+    omega (arith, d .before .before .copy-part .ensures .0, few (parted d), turn (parted d .before) .before .loop .inv .weighed)
 
 add-r-2 : tie.Need-add-r-2 Inv-loop μ-loop
-add-r-2 c = omega (arith, entry (turn (parted c .before)) .pre .0 .nreg)
+add-r-2 c = omega (arith, entry (turn (parted (copied (c .before)) .before)) .pre .0 .nreg)
 
 loop-less-2 : tie.Need-loop-less-2 Inv-loop μ-loop
 loop-less-2 c = omega arith
 
 loop-again-2 : tie.Need-loop-again-2 Inv-loop μ-loop
 loop-again-2 c =
-    let b = parted c in
+    let d = copied (c .before) in
+    let b = parted d in
     let k = turn (b .before) in
     let a = entry k in
+    let m = d .before .before .copy-part in
     copied-on (a .pre .0) (a .args .z .now) (a .pre .1 .0) (k .loop-test .taken) (k .before .loop .inv) (ends (b .before)) (b .if1 .left)
-    refl refl (c .before .before .copy-part .ensures)
+    (omega (arith, m .ensures .0 .0)) (omega (arith, m .ensures .0 .1)) (m .ensures .1)
 
 -- ---- behind the loop
 
@@ -168,10 +174,7 @@ copy-active-spec =
     loop-less
     loop-again
     copy-part-requires
-    sub-elements
     add-elements
-    sub-bytes
-    mul-bytes
     add-bytes
     add-r-2
     loop-less-2

@@ -1,12 +1,12 @@
--- `copy_part`: the part's bytes in register r, over their place among the active elements' bytes. No loop. Assumes nothing.
+-- `copy_part`: the part's bytes in register r, from their index on among the active elements' bytes. No loop. Assumes nothing.
 use mathlib.Core.List.{List}
 use mathlib.Core.Path.{_≡_, sym, ap, _∙_}
 use Prim.Native.Nat.{ℕ, _+_, _-_, _*_, _≤_}
 use native.Mathlib.Omega.{arith}
 use lib.ListN.{length, take, drop}
-use Rattle.writes.proofs.Parts.{part-is, part-length, part-over}
-use Rattle.elements.specs.Plans.{PartOf, stridedElement, bytesFrom}
-use Rattle.elements.proofs.Moving.{all-small, row-long, part-in, part-out, part-bytes, part-long}
+use Rattle.window.proofs.Parts.{part-is, part-length, part-over}
+use Rattle.elements.specs.Accesses.{PartOf, stridedElement, bytesFrom}
+use Rattle.elements.proofs.Moving.{high-small, size-small, all-small, row-long, part-in, part-out, part-bytes, part-long}
 use borrow.Author.Needs.{needs}
 use Rattle.elements.proofs.copy_part.Statement.{statement}
 use Rattle.elements.proofs.copy_part.Tie as tie
@@ -88,30 +88,37 @@ row-is c =
     ap length (c .row-of .ensures)
     ∙ row-long (a .args .s) (a .args .vb) (a .pre .0) (a .args .r) (its a .row) (a .args .z .now) (a .pre .1 .0)
 
-sub-copy : tie.Need-sub-copy
-sub-copy c = search needs
+sub-copy-elements : tie.Need-sub-copy-elements
+sub-copy-elements c = search needs
 
-part-copy-start : tie.Need-part-copy-start
-part-copy-start c = search needs
+part-copy-elements-start : tie.Need-part-copy-elements-start
+part-copy-elements-start c = search needs
 
-part-copy-end : tie.Need-part-copy-end
-part-copy-end c = in-out (entry-out (c .before))
+part-copy-elements-end : tie.Need-part-copy-elements-end
+part-copy-elements-end c = in-out (entry-out (c .before))
 
-sub-copy-2 : tie.Need-sub-copy-2
-sub-copy-2 c = search needs
+sub-copy-elements-2 : tie.Need-sub-copy-elements-2
+sub-copy-elements-2 c = search needs
 
-part-copy-start-2 : tie.Need-part-copy-start-2
-part-copy-start-2 c = search needs
+part-copy-elements-start-2 : tie.Need-part-copy-elements-start-2
+part-copy-elements-start-2 c = search needs
 
-part-copy-end-2 : tie.Need-part-copy-end-2
-part-copy-end-2 c = omega (arith, in-register (entry-out (c .before .before)), row-is (c .before))
+part-copy-elements-end-2 : tie.Need-part-copy-elements-end-2
+part-copy-elements-end-2 c = omega (arith, in-register (entry-out (c .before .before)), row-is (c .before))
 
-copy-requires : tie.Need-copy-requires
-copy-requires c κs =
+sub-copy-elements-3 : tie.Need-sub-copy-elements-3
+sub-copy-elements-3 c = omega (arith, its (entry-out (c .before .before .before)) .some)
+
+copy-elements-requires : tie.Need-copy-elements-requires
+copy-elements-requires c κs =
     let g = c .before .before in
     let a = entry-out (g .before) in
-    part-length (g .row-of .result .now) (from a) (n a) (omega (arith, in-register a, row-is g))
-    ∙ sym (part-length (a .args .out .now) (at a) (n a) (in-out a))
+    let k = size-small (a .args .s) (a .args .vb) (a .pre .0) in (
+      part-length (a .args .out .now) (at a) (n a) (in-out a),
+      part-length (g .row-of .result .now) (from a) (n a) (omega (arith, in-register a, row-is g)),
+      omega (arith, high-small (a .args .s) (a .args .vb) (a .pre .0), its a .high),
+      k,
+    )
 
 same-length : tie.Need-same-length
 same-length c = search needs
@@ -120,13 +127,16 @@ returns : tie.Need-returns
 returns c =
     let k = c .before .before in
     let g = k .before .before .before in
-    let a = entry-out (g .before) in
-    part-over (a .args .out .now) (at a) (n a) (k .copy .last .0) (its-bytes a)
-    (part-long (a .args .s) (a .args .vb) (a .pre .0) (a .args .r) (a .args .e) (a .args .to) (its a) (a .args .z .now) (a .pre .1 .0))
-    (k .copy .ensures
-    ∙ part-is (g .row-of .result .now) (from a) (n a)
-    ∙ ap (λ (l : List ℕ). take (n a) (drop (from a) l)) (g .row-of .ensures)
-    ∙ sym (part-bytes (a .args .s) (a .args .vb) (a .pre .0) (a .args .r) (a .args .e) (a .args .to) (its a) (a .args .z .now)))
+    let a = entry-out (g .before) in (
+      k .copy-elements .ensures .0,
+      part-over (a .args .out .now) (at a) (n a) (k .copy-elements .last .0) (its-bytes a)
+          (part-long (a .args .s) (a .args .vb) (a .pre .0) (a .args .r) (a .args .e) (a .args .to) (its a) (a .args .z .now)
+          (a .pre .1 .0))
+          (k .copy-elements .ensures .1
+          ∙ part-is (g .row-of .result .now) (from a) (n a)
+          ∙ ap (λ (l : List ℕ). take (n a) (drop (from a) l)) (g .row-of .ensures)
+          ∙ sym (part-bytes (a .args .s) (a .args .vb) (a .pre .0) (a .args .r) (a .args .e) (a .args .to) (its a) (a .args .z .now))),
+    )
 
 pub copy-part-spec : {M : Type 1} → statement M
 copy-part-spec =
@@ -142,12 +152,13 @@ copy-part-spec =
     mul-at
     add-until
     row-of-requires
-    sub-copy
-    part-copy-start
-    part-copy-end
-    sub-copy-2
-    part-copy-start-2
-    part-copy-end-2
-    copy-requires
+    sub-copy-elements
+    part-copy-elements-start
+    part-copy-elements-end
+    sub-copy-elements-2
+    part-copy-elements-start-2
+    part-copy-elements-end-2
+    sub-copy-elements-3
+    copy-elements-requires
     same-length
     returns)

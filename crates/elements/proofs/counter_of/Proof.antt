@@ -4,8 +4,8 @@ use mathlib.Core.Path.{ap, _∙_}
 use Prim.Native.Nat.{ℕ, _+_, _*_, _/_, _≤_, _<_}
 use native.Mathlib.Omega.{arith}
 use lib.ListN.{length, take}
-use Rattle.writes.specs.LittleEndian.{leVal}
-use Rattle.elements.proofs.Planning.{register-within, register-long}
+use Rattle.window.specs.LittleEndian.{leVal}
+use Rattle.elements.proofs.Numbers.{register-within, register-long}
 use borrow.Author.Needs.{needs}
 use Rattle.elements.proofs.counter_of.Statement.{statement}
 use Rattle.elements.proofs.counter_of.Tie as tie

@@ -4,7 +4,7 @@ use Prim.Native.Nat.{ℕ, _+_, _≤_}
 use lib.ListN.{length}
 use Rattle.encoding.specs.declared.Extension.{Extension}
 use Rattle.elements.specs.Stores.{signed32}
-use Rattle.elements.specs.Plans.{offsetBytes, offsetFrom}
+use Rattle.elements.specs.Accesses.{offsetBytes, offsetFrom}
 use borrow.Author.Needs.{needs}
 use Rattle.elements.proofs.offset.Statement.{statement}
 use Rattle.elements.proofs.offset.Tie as tie

@@ -2,7 +2,7 @@
 use Prim.Native.Nat.{_+_, _*_, _<_}
 use native.Mathlib.Omega.{arith}
 use lib.ListN.{length}
-use Rattle.elements.proofs.Planning.{register-in}
+use Rattle.elements.proofs.Numbers.{register-in}
 use Rattle.elements.proofs.Moving.{row-below}
 use Rattle.elements.proofs.row_of.Statement.{statement}
 use Rattle.elements.proofs.row_of.Tie as tie

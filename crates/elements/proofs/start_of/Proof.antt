@@ -12,7 +12,7 @@ use Rattle.encoding.specs.declared.Layout.{Layout}
 use Rattle.encoding.specs.declared.Store.the-variants.{Strided}
 use Rattle.elements.specs.Machine.{Machine, machine}
 use Rattle.elements.proofs.Shapes.{StridedIn, strided-in}
-use Rattle.elements.proofs.Planning.{start-displaced, start-indexed}
+use Rattle.elements.proofs.Numbers.{start-displaced, start-indexed}
 use borrow.Author.Needs.{needs}
 use Rattle.elements.proofs.start_of.Statement.{statement}
 use Rattle.elements.proofs.start_of.Tie as tie

@@ -1,6 +1,6 @@
 -- `strided_active`: the range test. No loop. Assumes nothing.
 use mathlib.Core.Path.{refl}
-use Rattle.elements.specs.Plans.{stridedActive}
+use Rattle.elements.specs.Accesses.{stridedActive}
 use Rattle.elements.proofs.strided_active.Statement.{statement}
 use Rattle.elements.proofs.strided_active.Tie as tie
 

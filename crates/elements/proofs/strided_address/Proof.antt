@@ -1,5 +1,5 @@
 -- `strided_address`: a sum modulo 2^64. No loop. Assumes nothing.
-use Rattle.elements.specs.Plans.{stridedAddress}
+use Rattle.elements.specs.Accesses.{stridedAddress}
 use borrow.Author.Needs.{needs}
 use Rattle.elements.proofs.strided_address.Statement.{statement}
 use Rattle.elements.proofs.strided_address.Tie as tie

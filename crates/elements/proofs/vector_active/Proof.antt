@@ -1,5 +1,5 @@
 -- `vector_active`: the predicate's bit at the element's first byte. No loop. Assumes nothing.
-use Rattle.elements.specs.Plans.{vectorActive}
+use Rattle.elements.specs.Accesses.{vectorActive}
 use borrow.Author.Needs.{needs}
 use Rattle.elements.proofs.vector_active.Statement.{statement}
 use Rattle.elements.proofs.vector_active.Tie as tie

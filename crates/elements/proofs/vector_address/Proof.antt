@@ -1,5 +1,5 @@
--- `vector_address`: by the place of its offset. No loop. Assumes nothing.
-use Rattle.elements.specs.Plans.{vectorAddress}
+-- `vector_address`: by the index of its offset. No loop. Assumes nothing.
+use Rattle.elements.specs.Accesses.{vectorAddress}
 use borrow.Author.Needs.{needs}
 use Rattle.elements.proofs.vector_address.Statement.{statement}
 use Rattle.elements.proofs.vector_address.Tie as tie

@@ -1,4 +1,4 @@
--- `feature_of`: the feature at the class's place. Assumes nothing.
+-- `feature_of`: the feature in the class's row. Assumes nothing.
 use mathlib.Core.Path.{sym, ap, _∙_}
 use Prim.Native.Nat.{ℕ}
 use native.Mathlib.Omega.{arith}

@@ -1,4 +1,4 @@
--- `layout_for`: the layout at the class's place. Assumes nothing.
+-- `layout_for`: the layout in the class's row. Assumes nothing.
 use mathlib.Core.Path.{sym, ap, _∙_, subst}
 use Prim.Native.Nat.{ℕ, _<_}
 use lib.ListN.{length}

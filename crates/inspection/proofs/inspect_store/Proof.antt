@@ -1,4 +1,4 @@
--- `inspect_store`: the element of the store's plan, by its case. Assumes nothing.
+-- `inspect_store`: the element of the store's access, by its case. Assumes nothing.
 use mathlib.Core.Bool.{false}
 use mathlib.Core.Path.{_≡_, sym, ap, _∙_, subst}
 use Prim.Native.Nat.{_*_}
@@ -6,11 +6,11 @@ use lib.ListN.{length}
 use Rattle.encoding.specs.Encoding.{refused}
 use Rattle.encoding.specs.declared.Store.{Store}
 use Rattle.encoding.specs.declared.Store.the-variants.{Scatter, Strided, Quadword}
-use Rattle.writes.proofs.LittleEndian.{bytes-at}
+use Rattle.window.proofs.LittleEndian.{bytes-at}
 use Rattle.elements.specs.Machine.{Machine, machine}
-use Rattle.elements.specs.Plans.{VectorSound, StridedSound}
-use Rattle.elements.specs.declared.VectorPlan.{VectorPlan}
-use Rattle.elements.specs.declared.StridedPlan.{StridedPlan}
+use Rattle.elements.specs.Accesses.{VectorSound, StridedSound}
+use Rattle.elements.specs.declared.VectorAccess.{VectorAccess}
+use Rattle.elements.specs.declared.StridedAccess.{StridedAccess}
 use Rattle.elements.proofs.Shapes.{scatter-in, quadword-in, strided-in}
 use Rattle.elements.proofs.Soundness.{scatter-sound, quadword-sound, strided-sound}
 use Rattle.inspection.specs.Inspection.{inspectedAt}
@@ -30,27 +30,27 @@ module _ (a : tie.Start) where
   ok : (s : Store) → a .args .store ≡ s → refused s ≡ false
   ok s e = ap refused (sym e) ∙ a .pre .0
 
-  -- what a plan that is the store's asks and answers
-  vector-asks : (v w : VectorPlan) → v ≡ w → VectorSound w (a .args .vb)
+  -- what an access that is the store's asks and answers
+  vector-asks : (v w : VectorAccess) → v ≡ w → VectorSound w (a .args .vb)
       → VectorSound v (a .args .vb) × ((length (a .args .z .now) ≡ 32 * a .args .vb) × (length (a .args .p .now) ≡ 2 * a .args .vb))
   vector-asks v w e s =
-      (subst (λ (y : VectorPlan). VectorSound y (a .args .vb)) (sym e) s, (a .pre .1 .long-z, a .pre .1 .long-p))
+      (subst (λ (y : VectorAccess). VectorSound y (a .args .vb)) (sym e) s, (a .pre .1 .long-z, a .pre .1 .long-p))
 
-  vector-answers : (r : Inspected) (v w : VectorPlan) (s : Store) → a .args .store ≡ s
+  vector-answers : (r : Inspected) (v w : VectorAccess) (s : Store) → a .args .store ≡ s
       → r ≡ vectorInspected v (a .args .vb) (a .args .z .now) (a .args .p .now) (a .args .e) → v ≡ w
       → vectorInspected w (a .args .vb) (a .args .z .now) (a .args .p .now) (a .args .e) ≡ inspectedAt m s (a .args .e)
       → r ≡ inspectedAt m (a .args .store) (a .args .e)
   vector-answers r v w s e q i t =
       q
-      ∙ ap (λ (y : VectorPlan). vectorInspected y (a .args .vb) (a .args .z .now) (a .args .p .now) (a .args .e)) i
+      ∙ ap (λ (y : VectorAccess). vectorInspected y (a .args .vb) (a .args .z .now) (a .args .p .now) (a .args .e)) i
       ∙ t
       ∙ ap (λ (y : Store). inspectedAt m y (a .args .e)) (sym e)
 
 enum-known-store : tie.Need-enum-known-store
 enum-known-store c = search needs
 
-scatter-plan-requires : tie.Need-scatter-plan-requires
-scatter-plan-requires c κs =
+scatter-access-requires : tie.Need-scatter-access-requires
+scatter-access-requires c κs =
     let t = c .before in
     let a = t .before .before .before .before in
     (ok a _ (t .store .given .1), a .pre .1 .high)
@@ -61,13 +61,13 @@ inspect-vector-requires c κs =
     let a = t .before .before .before .before in
     let f = t .store .given .0 .0 in
     let s = scatter-in f (ok a (Scatter f) (t .store .given .1)) in
-    vector-asks a _ _ (c .scatter-plan .ensures) (scatter-sound (m a) (a .pre .1 .low) (a .pre .1 .high) (a .pre .1 .sixteen) f s)
+    vector-asks a _ _ (c .scatter-access .ensures) (scatter-sound (m a) (a .pre .1 .low) (a .pre .1 .high) (a .pre .1 .sixteen) f s)
 
 enum-known-store-2 : tie.Need-enum-known-store-2
 enum-known-store-2 c = search needs
 
-strided-plan-requires : tie.Need-strided-plan-requires
-strided-plan-requires c κs =
+strided-access-requires : tie.Need-strided-access-requires
+strided-access-requires c κs =
     let t = c .before in
     let a = t .before .before .before .before in
     (ok a _ (t .store2 .given .1), (a .pre .1 .low, a .pre .1 .high, a .pre .1 .long-p))
@@ -78,14 +78,14 @@ inspect-strided-requires c κs =
     let a = t .before .before .before .before in
     let f = t .store2 .given .0 .0 in
     let s = strided-in f (ok a (Strided f) (t .store2 .given .1)) in
-    subst (λ (v : StridedPlan). StridedSound v (a .args .vb)) (sym (c .strided-plan .ensures))
+    subst (λ (v : StridedAccess). StridedSound v (a .args .vb)) (sym (c .strided-access .ensures))
     (strided-sound (m a) (a .pre .1 .low) (a .pre .1 .high) (a .pre .1 .sixteen) f s)
 
 enum-known-store-3 : tie.Need-enum-known-store-3
 enum-known-store-3 c = search needs
 
-quadword-plan-requires : tie.Need-quadword-plan-requires
-quadword-plan-requires c κs =
+quadword-access-requires : tie.Need-quadword-access-requires
+quadword-access-requires c κs =
     let t = c .before in
     let a = t .before .before .before .before in
     (ok a _ (t .store3 .given .1), a .pre .1 .high)
@@ -96,7 +96,7 @@ inspect-vector-requires-2 c κs =
     let a = t .before .before .before .before in
     let f = t .store3 .given .0 .0 in
     let s = quadword-in f (ok a (Quadword f) (t .store3 .given .1)) in
-    vector-asks a _ _ (c .quadword-plan .ensures) (quadword-sound (m a) (a .pre .1 .low) (a .pre .1 .high) (a .pre .1 .sixteen) f s)
+    vector-asks a _ _ (c .quadword-access .ensures) (quadword-sound (m a) (a .pre .1 .low) (a .pre .1 .high) (a .pre .1 .sixteen) f s)
 
 returns : tie.Need-returns
 returns c =
@@ -105,7 +105,7 @@ returns c =
     let a = z .before in
     let f = t .store .given .0 .0 in
     let s = scatter-in f (ok a (Scatter f) (t .store .given .1)) in
-    vector-answers a _ _ _ (Scatter f) (t .store .given .1) (c .inspect-vector .ensures) (c .before .scatter-plan .ensures)
+    vector-answers a _ _ _ (Scatter f) (t .store .given .1) (c .inspect-vector .ensures) (c .before .scatter-access .ensures)
     (scatter-inspected (m a) (a .args .e) f s (bytes-at (a .args .z .now) (λ i. z .shared-slice-known .given i .fits)))
 
 returns-2 : tie.Need-returns-2
@@ -115,7 +115,7 @@ returns-2 c =
     let f = t .store2 .given .0 .0 in
     let s = strided-in f (ok a (Strided f) (t .store2 .given .1)) in
     c .inspect-strided .ensures
-    ∙ ap (λ (v : StridedPlan). stridedInspected v (a .args .vb) (a .args .e)) (c .before .strided-plan .ensures)
+    ∙ ap (λ (v : StridedAccess). stridedInspected v (a .args .vb) (a .args .e)) (c .before .strided-access .ensures)
     ∙ strided-inspected (m a) (a .args .e) f s
     ∙ ap (λ (y : Store). inspectedAt (m a) y (a .args .e)) (sym (t .store2 .given .1))
 
@@ -125,7 +125,7 @@ returns-3 c =
     let a = t .before .before .before .before in
     let f = t .store3 .given .0 .0 in
     let s = quadword-in f (ok a (Quadword f) (t .store3 .given .1)) in
-    vector-answers a _ _ _ (Quadword f) (t .store3 .given .1) (c .inspect-vector2 .ensures) (c .before .quadword-plan .ensures)
+    vector-answers a _ _ _ (Quadword f) (t .store3 .given .1) (c .inspect-vector2 .ensures) (c .before .quadword-access .ensures)
     (quadword-inspected (m a) (a .args .e) f s)
 
 pub inspect-store-spec : {M : Type 1} → statement M
@@ -133,13 +133,13 @@ inspect-store-spec =
     tie.close
     (tie.spec
     enum-known-store
-    scatter-plan-requires
+    scatter-access-requires
     inspect-vector-requires
     enum-known-store-2
-    strided-plan-requires
+    strided-access-requires
     inspect-strided-requires
     enum-known-store-3
-    quadword-plan-requires
+    quadword-access-requires
     inspect-vector-requires-2
     returns
     returns-2

@@ -1,9 +1,9 @@
--- `inspect_strided`: the element is held to the plan's count, and then lies in its register. No loop. Assumes nothing.
+-- `inspect_strided`: the element is held to the access's count, and then lies in its register. No loop. Assumes nothing.
 use mathlib.Core.Path.{refl}
 use Prim.Native.Nat.{ℕ, _+_, _*_, _/_, _%_, _≤_, _<_}
 use native.Mathlib.Omega.{arith}
 use borrow.Author.Needs.{needs}
-use Rattle.checks.proofs.Spans.{strided-below, place-in, register-below, register-fits, strided-few}
+use Rattle.verdicts.proofs.Spans.{strided-below, index-in, register-below, register-fits, strided-few}
 use Rattle.inspection.proofs.Inspecting.{strided-past, strided-found}
 use Rattle.inspection.proofs.inspect_strided.Statement.{statement}
 use Rattle.inspection.proofs.inspect_strided.Tie as tie
@@ -23,7 +23,7 @@ module _ (t : tie.Else1) where
   its-byte =
       let g = start .args in
       let r = register-fits (g .s) (g .vb) (start .pre) (g .e) (t .if1 .left) (32 * g .vb) refl in
-      omega (arith, r, place-in (g .s) (g .vb) (start .pre) (g .e) (t .if1 .left), start .pre .high)
+      omega (arith, r, index-in (g .s) (g .vb) (start .pre) (g .e) (t .if1 .left), start .pre .high)
 
 -- from the element's address back to that test
 abbrev tested : tie.After-strided-address → tie.Else1

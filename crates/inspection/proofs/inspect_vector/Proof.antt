@@ -1,10 +1,10 @@
--- `inspect_vector`: the element is held to the plan's count, and then lies in its registers. No loop. Assumes nothing.
+-- `inspect_vector`: the element is held to the access's count, and then lies in its registers. No loop. Assumes nothing.
 use mathlib.Core.Path.{refl, ap, _∙_}
 use Prim.Native.Nat.{_+_, _*_, _/_, _≤_}
 use native.Mathlib.Omega.{arith}
 use lib.ListN.{length}
-use Rattle.elements.proofs.Planning.{register-in, predicate-in, register-long}
-use Rattle.checks.proofs.Spans.{whole-in, offset-in, bit-in, below-end}
+use Rattle.elements.proofs.Numbers.{register-in, predicate-in, register-long}
+use Rattle.verdicts.proofs.Spans.{whole-in, offset-in, bit-in, below-end}
 use Rattle.inspection.proofs.Inspecting.{vector-past, vector-found}
 use Rattle.inspection.proofs.inspect_vector.Statement.{statement}
 use Rattle.inspection.proofs.inspect_vector.Tie as tie
@@ -24,8 +24,8 @@ module _ (t : tie.Else1) where
   abbrev start : tie.Start
   start = t .before .before .before
 
-  place-in : start .args .v .stored * start .args .vb + start .args .e * start .args .v .step ≤ 32 * 256
-  place-in =
+  index-in : start .args .v .stored * start .args .vb + start .args .e * start .args .v .step ≤ 32 * 256
+  index-in =
       let g = start .args in
       let s = start .pre .0 in
       let r = register-in (g .vb) (g .v .stored) 32 (32 * g .vb) (s .stored) refl in
@@ -65,13 +65,13 @@ vector-address-requires c κs =
     (omega (arith, l, offset-in (g .v) (g .vb) s (g .e) (t .if1 .left)), s .scale)
 
 mul-t13 : tie.Need-mul-t13
-mul-t13 c = omega (arith, place-in (tested (c .before)))
+mul-t13 c = omega (arith, index-in (tested (c .before)))
 
 mul-t14 : tie.Need-mul-t14
-mul-t14 c = omega (arith, place-in (tested (c .before .before)))
+mul-t14 c = omega (arith, index-in (tested (c .before .before)))
 
 add-t15 : tie.Need-add-t15
-add-t15 c = omega (arith, place-in (tested (c .before .before)))
+add-t15 c = omega (arith, index-in (tested (c .before .before)))
 
 returns-2 : tie.Need-returns-2
 returns-2 c =

@@ -5,15 +5,16 @@ use Prim.Native.Nat.{ℕ}
 use Rattle.patch.specs.Answers.{appliedNumber, appliedNumbers}
 use Rattle.patch.specs.Applying.{AppliedTo}
 use Rattle.patch.specs.declared.Applied.{Applied}
-use Rattle.starshackle.specs.Patches.{AppliedAs}
+use Rattle.starshackle.specs.Interface.{Answers}
 use borrow.Author.Needs.{needs}
 use Rattle.starshackle.proofs.starshackle_apply.Statement.{statement}
 use Rattle.starshackle.proofs.starshackle_apply.Tie as tie
 
--- an answer in numbers, by its case
-applied : {W : ℕ} {m s m′ : List ℕ} (r a : Applied) → AppliedTo W m s r m′ → r ≡ a
-    → AppliedAs W m s (appliedNumber a) (appliedNumbers a) m′
-applied r a o e = record { answer = r; outcome = o; its-number = sym (ap appliedNumber e); its-numbers = sym (ap appliedNumbers e) }
+-- the numbers of an answer, by its case
+answered : (W : ℕ) (m s m′ : List ℕ) (r a : Applied) → AppliedTo W m s r m′ → r ≡ a
+    → Answers (λ (y : Applied). AppliedTo W m s y m′) appliedNumber appliedNumbers (appliedNumber a) (appliedNumbers a)
+answered W m s m′ r a h e =
+    record { answer = r; holds = h; its-number = sym (ap appliedNumber e); its-numbers = sym (ap appliedNumbers e) }
 
 apply-requires : tie.Need-apply-requires
 apply-requires c κs = search needs
@@ -35,32 +36,36 @@ same-length c = search needs
 
 returns : tie.Need-returns
 returns c =
-    let r = c .before .before .before .before .before .before .apply in
-    applied (r .result) _ (r .ensures) (c .before .before .runs .given .1)
+    let t = c .before .before in
+    let d = t .before .before .before .before .apply in
+    answered _ _ _ _ (d .result) _ (d .ensures) (t .runs .given .1)
 
 same-length-2 : tie.Need-same-length-2
 same-length-2 c = search needs
 
 returns-2 : tie.Need-returns-2
 returns-2 c =
-    let r = c .before .before .before .before .before .apply in
-    applied (r .result) _ (r .ensures) (c .before .enum-told .given .1)
+    let t = c .before in
+    let d = t .before .before .before .before .apply in
+    answered _ _ _ _ (d .result) _ (d .ensures) (t .enum-told .given .1)
 
 same-length-3 : tie.Need-same-length-3
 same-length-3 c = search needs
 
 returns-3 : tie.Need-returns-3
 returns-3 c =
-    let r = c .before .before .before .before .before .apply in
-    applied (r .result) _ (r .ensures) (c .before .enum-told2 .given .1)
+    let t = c .before in
+    let d = t .before .before .before .before .apply in
+    answered _ _ _ _ (d .result) _ (d .ensures) (t .enum-told2 .given .1)
 
 same-length-4 : tie.Need-same-length-4
 same-length-4 c = search needs
 
 returns-4 : tie.Need-returns-4
 returns-4 c =
-    let r = c .before .before .before .before .before .before .apply in
-    applied (r .result) _ (r .ensures) (c .before .before .run .given .1)
+    let t = c .before .before in
+    let d = t .before .before .before .before .apply in
+    answered _ _ _ _ (d .result) _ (d .ensures) (t .run .given .1)
 
 pub starshackle-apply-spec : {M : Type 1} → statement M
 starshackle-apply-spec =

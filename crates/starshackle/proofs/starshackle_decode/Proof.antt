@@ -20,13 +20,20 @@ enum-told c = search needs
 returns : tie.Need-returns
 returns c =
     let t = c .before .before in
-    let e = sym (t .store .given .1) ∙ t .before .before .decode .ensures in
-    (ap decodedNumber e, c .numbers-of .ensures ∙ ap decodedNumbers e)
+    let d = t .before .before .decode in
+    let e = sym (t .store .given .1) in
+    record {
+      answer = d .result;
+      holds = d .ensures;
+      its-number = ap decodedNumber e;
+      its-numbers = c .numbers-of .ensures ∙ ap decodedNumbers e;
+    }
 
 returns-2 : tie.Need-returns-2
 returns-2 c =
-    let e = sym (c .before .enum-told .given .1) ∙ c .before .before .before .decode .ensures in
-    (ap decodedNumber e, ap decodedNumbers e)
+    let d = c .before .before .before .decode in
+    let e = sym (c .before .enum-told .given .1) in
+    record { answer = d .result; holds = d .ensures; its-number = ap decodedNumber e; its-numbers = ap decodedNumbers e }
 
 pub starshackle-decode-spec : {M : Type 1} → statement M
 starshackle-decode-spec =

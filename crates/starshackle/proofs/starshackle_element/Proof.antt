@@ -1,6 +1,4 @@
 -- `starshackle_element`: by what inspecting answers. Assumes nothing.
-use mathlib.Core.Path.{ap, _∙_}
-use Rattle.inspection.specs.Inspection.{inspectedNumber, inspectedAnswers}
 use borrow.Author.Needs.{needs}
 use Rattle.starshackle.proofs.starshackle_element.Statement.{statement}
 use Rattle.starshackle.proofs.starshackle_element.Tie as tie
@@ -16,8 +14,8 @@ number-of-requires c κs = search needs
 
 returns : tie.Need-returns
 returns c =
-    let e = c .before .before .inspect .ensures in
-    (c .number-of .ensures ∙ ap inspectedNumber e, c .before .answers-of .ensures ∙ ap inspectedAnswers e)
+    let i = c .before .before .inspect in
+    record { answer = i .result; holds = i .ensures; its-number = c .number-of .ensures; its-numbers = c .before .answers-of .ensures }
 
 pub starshackle-element-spec : {M : Type 1} → statement M
 starshackle-element-spec =

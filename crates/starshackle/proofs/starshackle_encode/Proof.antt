@@ -1,5 +1,5 @@
 -- `starshackle_encode`: by what encoding answers. Assumes nothing.
-use mathlib.Core.Path.{sym, ap, _∙_}
+use mathlib.Core.Path.{sym, ap}
 use Rattle.encoding.specs.Answers.{encodedNumber}
 use Rattle.codec.specs.Codec.{encodedAnswers}
 use borrow.Author.Needs.{needs}
@@ -20,13 +20,16 @@ enum-told c = search needs
 
 returns : tie.Need-returns
 returns c =
-    let e = sym (c .before .before .word .given .1) ∙ c .before .before .before .before .encode-given .ensures in
-    (ap encodedNumber e, ap encodedAnswers e)
+    let t = c .before .before in
+    let g = t .before .before .encode-given in
+    let e = sym (t .word .given .1) in
+    record { answer = g .result; holds = g .ensures; its-number = ap encodedNumber e; its-numbers = ap encodedAnswers e }
 
 returns-2 : tie.Need-returns-2
 returns-2 c =
-    let e = sym (c .before .enum-told .given .1) ∙ c .before .before .before .encode-given .ensures in
-    (ap encodedNumber e, ap encodedAnswers e)
+    let g = c .before .before .before .encode-given in
+    let e = sym (c .before .enum-told .given .1) in
+    record { answer = g .result; holds = g .ensures; its-number = ap encodedNumber e; its-numbers = ap encodedAnswers e }
 
 pub starshackle-encode-spec : {M : Type 1} → statement M
 starshackle-encode-spec =

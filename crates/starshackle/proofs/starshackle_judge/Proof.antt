@@ -1,5 +1,5 @@
 -- `starshackle_judge`: by what judging answers. Assumes nothing.
-use mathlib.Core.Path.{sym, ap, _∙_}
+use mathlib.Core.Path.{sym, ap}
 use Rattle.patch.specs.Answers.{judgedNumber, judgedNumbers}
 use borrow.Author.Needs.{needs}
 use Rattle.starshackle.proofs.starshackle_judge.Statement.{statement}
@@ -16,13 +16,17 @@ enum-known-runs-2 c = search needs
 
 returns : tie.Need-returns
 returns c =
-    let e = sym (c .before .before .runs .given .1) ∙ c .before .before .before .before .judge .ensures in
-    (ap judgedNumber e, ap judgedNumbers e)
+    let t = c .before .before in
+    let j = t .before .before .judge in
+    let e = sym (t .runs .given .1) in
+    record { answer = j .result; holds = j .ensures; its-number = ap judgedNumber e; its-numbers = ap judgedNumbers e }
 
 returns-2 : tie.Need-returns-2
 returns-2 c =
-    let e = sym (c .before .before .runs2 .given .1) ∙ c .before .before .before .before .judge .ensures in
-    (ap judgedNumber e, ap judgedNumbers e)
+    let t = c .before .before in
+    let j = t .before .before .judge in
+    let e = sym (t .runs2 .given .1) in
+    record { answer = j .result; holds = j .ensures; its-number = ap judgedNumber e; its-numbers = ap judgedNumbers e }
 
 pub starshackle-judge-spec : {M : Type 1} → statement M
 starshackle-judge-spec =

@@ -1,11 +1,11 @@
 //! Applying patches.
 
-use super::stores::WINDOW;
+use super::shapes::WINDOW;
 use super::{times_hand, Case, Outcome, Subject};
 use crate::sides::Side;
 use crate::timing::{repeated, Repeated};
+use crate::verdicts::DONE;
 use compare::patches::generate::{string, Run};
-use std::hint::black_box;
 
 const AIM: f64 = 1.5;
 const BASE: u64 = 0x4_0000;
@@ -18,7 +18,7 @@ pub fn cases() -> Vec<Case> {
 fn case((runs, bytes): (usize, usize)) -> Case {
     let run = |number: usize| {
         let start = BASE + (number * (WINDOW / runs)) as u64;
-        Run { start, bytes: (0..bytes).map(|place| (number + place) as u8).collect() }
+        Run { start, bytes: (0..bytes).map(|index| (number + index) as u8).collect() }
     };
     let patch = string(&(0..runs).map(run).collect::<Vec<Run>>());
     let text = |count, name| match count {
@@ -40,9 +40,6 @@ impl Subject for Patch {
 
     fn repeated<'a>(&'a self, side: &'a Side) -> Repeated<'a> {
         let (mut memory, mut answer) = (vec![0; WINDOW], [0; 5]);
-        repeated(move || {
-            let (memory, answer) = (black_box(&mut memory), black_box(&mut answer));
-            (side.apply)(black_box(BASE), memory, black_box(&self.0), answer)
-        })
+        repeated(move || (side.apply)(BASE, &mut memory, &self.0, &mut answer) == DONE)
     }
 }

@@ -1,13 +1,14 @@
 //! What is measured.
 
+mod aligned;
 mod apply;
 mod decode;
-mod make_patch;
-mod run;
-mod stores;
+mod shapes;
+mod store;
 
 use crate::sides::Side;
 use crate::timing::Repeated;
+use crate::verdicts::DONE;
 
 /// What a call answers and leaves: verdict, numbers, bytes.
 pub type Outcome = (u64, Vec<u64>, Vec<u8>);
@@ -17,8 +18,13 @@ pub trait Subject {
     /// What the call answers and leaves.
     fn outcome(&self, side: &Side) -> Outcome;
 
-    /// The call, with buffers of its own, which aren't cleared between two calls.
+    /// The call, with buffers that aren't cleared between two calls.
     fn repeated<'a>(&'a self, side: &'a Side) -> Repeated<'a>;
+
+    /// The verdict that is due.
+    fn verdict(&self) -> u64 {
+        DONE
+    }
 
     /// How many times the call does what is measured.
     fn units(&self) -> usize {
@@ -51,8 +57,7 @@ pub struct Group {
 pub fn groups() -> Vec<Group> {
     let group = |call, unit, cases| Group { call, unit, cases };
     vec![
-        group("run", "call", run::cases()),
-        group("make_patch", "call", make_patch::cases()),
+        group("store", "call", store::cases()),
         group("apply", "call", apply::cases()),
         group("decode", "word", decode::cases()),
     ]
@@ -68,7 +73,10 @@ pub fn chosen(text: &str) -> Vec<Group> {
     groups
 }
 
+/// No slower than idiomatic Rust.
+const NO_SLOWER: Aim = Aim { idiomatic: 1.0, hand: None };
+
 /// No slower than idiomatic Rust, and at most so many times the time of Rust written to be quick.
 fn times_hand(hand: f64) -> Aim {
-    Aim { idiomatic: 1.0, hand: Some(hand) }
+    Aim { hand: Some(hand), ..NO_SLOWER }
 }

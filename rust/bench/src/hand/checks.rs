@@ -2,8 +2,7 @@
 
 use super::decode::{field, row_of, Row};
 use crate::verdicts::{FAULT, ILLEGAL, LENGTH, LONGEST, REGISTERS, STACK, UNDEFINED, WINDOW};
-use starshackle::run::Flags;
-use starshackle::Answer;
+use compare::storing::arm::{FA64, SME2, SP_CHECK, SP_CHECK_NONE_ACTIVE, STREAMING};
 
 /// The registers, the window's address and length, and the word.
 #[derive(Clone, Copy)]
@@ -19,6 +18,13 @@ pub struct Lent<'a> {
     pub word: u32,
 }
 
+/// What a call may write.
+pub struct Buffers<'a> {
+    pub memory: &'a mut [u8],
+    pub patch: &'a mut [u8],
+    pub answer: &'a mut [u64; 6],
+}
+
 /// Whether there is no such window.
 #[inline(always)]
 pub fn bad_window(base: u64, length: u64) -> bool {
@@ -27,7 +33,7 @@ pub fn bad_window(base: u64, length: u64) -> bool {
 
 /// The answer to a fault.
 #[cold]
-pub fn fault(answer: &mut Answer, element: usize, address: u64) -> u64 {
+pub fn fault(answer: &mut [u64; 6], element: usize, address: u64) -> u64 {
     (answer[0], answer[1]) = (element as u64, address);
     FAULT
 }
@@ -46,21 +52,20 @@ impl<'a> Lent<'a> {
             return Err(WINDOW);
         }
         let row = row_of(self.word).ok_or(UNDEFINED)?;
-        let (feature, legal) = match row.class {
-            8..=11 => (Flags::SME2, self.has(Flags::STREAMING)),
-            12 => (Flags::SVE2P1, !self.has(Flags::STREAMING) || self.has(Flags::FA64)),
-            _ => (Flags::SVE, !self.has(Flags::STREAMING) || self.has(Flags::FA64)),
-        };
-        match (self.has(feature), legal) {
-            (false, _) => Err(UNDEFINED),
-            (true, false) => Err(ILLEGAL),
-            (true, true) => Ok(row),
+        if !self.has(row.feature.into()) {
+            return Err(UNDEFINED);
         }
+        let legal = match u32::from(row.feature) {
+            SME2 => self.has(STREAMING),
+            _ => !self.has(STREAMING) || self.has(FA64),
+        };
+        legal.then_some(row).ok_or(ILLEGAL)
     }
 
+    /// Whether the flag with this bit is on.
     #[inline(always)]
-    fn has(&self, flag: Flags) -> bool {
-        self.flags & flag.0 != 0
+    fn has(&self, bit: u32) -> bool {
+        self.flags >> bit & 1 == 1
     }
 
     /// The base register, or the stack's verdict.
@@ -68,8 +73,8 @@ impl<'a> Lent<'a> {
     pub fn base(&self, any_active: impl FnOnce() -> bool) -> Result<u64, u64> {
         match self.x.get(field(self.word, 5, 31)) {
             Some(&register) => Ok(register),
-            None if self.sp % 16 == 0 || !self.has(Flags::SP_CHECK) => Ok(self.sp),
-            None if self.has(Flags::SP_CHECK_NONE_ACTIVE) || any_active() => Err(STACK),
+            None if self.sp % 16 == 0 || !self.has(SP_CHECK) => Ok(self.sp),
+            None if self.has(SP_CHECK_NONE_ACTIVE) || any_active() => Err(STACK),
             None => Ok(self.sp),
         }
     }

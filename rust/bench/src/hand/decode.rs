@@ -1,12 +1,28 @@
 //! Words, by one look into a table.
 
 use crate::verdicts::{DONE, UNDEFINED};
+use compare::storing::arm::{SME2, SVE, SVE2P1};
 use starshackle::Fields;
 
 /// How 32-bit offsets are extended, as [`Fields`] has it.
 pub const NONE: u8 = 0;
 pub const UXTW: u8 = 1;
 pub const SXTW: u8 = 2;
+
+/// The loops that are compiled for stores, by the elements that they take.
+#[derive(Clone, Copy)]
+pub enum Loop {
+    Doubleword,
+    DoublewordUxtw,
+    DoublewordSxtw,
+    Byte,
+    ByteUxtw,
+    ByteSxtw,
+    PackedByteUxtw,
+    PackedByteSxtw,
+    Quadword,
+    Strided,
+}
 
 /// What words of a class have in common.
 #[derive(Clone, Copy)]
@@ -23,24 +39,46 @@ pub struct Row {
     register: u8,
     /// How many registers an immediate counts, 0 where there is none.
     pub step: u8,
+    /// The bit of the flag without which the class is undefined.
+    pub feature: u8,
+    /// What a store's offsets are shifted by.
+    pub scale: u8,
+    pub by: Loop,
 }
 
 /// No word has these bits.
-const EMPTY: Row =
-    Row { fixed: 0, base: 1, class: 0, extension: NONE, index: 0, register: 0, step: 0 };
+const EMPTY: Row = Row {
+    fixed: 0,
+    base: 1,
+    class: 0,
+    extension: NONE,
+    index: 31,
+    register: 31,
+    step: 0,
+    feature: SVE as u8,
+    scale: 0,
+    by: Loop::Strided,
+};
 
-const fn row(class: u8, base: u32, fixed: u32) -> Row {
-    Row { fixed, base, class, extension: NONE, index: 31, register: 31, step: 0 }
+const fn scatter(class: u8, base: u32, scale: u8, by: Loop) -> Row {
+    Row { class, base, fixed: 0xFFE0_E000, scale, by, ..EMPTY }
 }
 
-const fn extended(class: u8, base: u32, extension: u8) -> Row {
-    let base = if extension == SXTW { base | 1 << 14 } else { base };
-    Row { extension, ..row(class, base, 0xFFE0_E000) }
+const fn uxtw(class: u8, base: u32, scale: u8, by: Loop) -> Row {
+    Row { extension: UXTW, ..scatter(class, base, scale, by) }
+}
+
+const fn sxtw(class: u8, base: u32, scale: u8, by: Loop) -> Row {
+    Row { extension: SXTW, ..scatter(class, base | 1 << 14, scale, by) }
+}
+
+const fn quadword(class: u8, base: u32) -> Row {
+    Row { feature: SVE2P1 as u8, ..scatter(class, base, 0, Loop::Quadword) }
 }
 
 const fn strided(class: u8, base: u32, register: u8) -> Row {
     let fixed = 0xFFE0_E000 | !register as u32 & 0x1F;
-    Row { register, ..row(class, base, fixed) }
+    Row { class, base, fixed, register, feature: SME2 as u8, ..EMPTY }
 }
 
 const fn immediate(class: u8, base: u32, register: u8, step: u8) -> Row {
@@ -49,22 +87,22 @@ const fn immediate(class: u8, base: u32, register: u8, step: u8) -> Row {
 }
 
 const ROWS: [Row; 16] = [
-    extended(1, 0xE5A0_8000, UXTW),
-    extended(1, 0xE5A0_8000, SXTW),
-    extended(2, 0xE580_8000, UXTW),
-    extended(2, 0xE580_8000, SXTW),
-    row(3, 0xE5A0_A000, 0xFFE0_E000),
-    row(4, 0xE580_A000, 0xFFE0_E000),
-    extended(5, 0xE400_8000, UXTW),
-    extended(5, 0xE400_8000, SXTW),
-    extended(6, 0xE440_8000, UXTW),
-    extended(6, 0xE440_8000, SXTW),
-    row(7, 0xE400_A000, 0xFFE0_E000),
+    uxtw(1, 0xE5A0_8000, 3, Loop::DoublewordUxtw),
+    sxtw(1, 0xE5A0_8000, 3, Loop::DoublewordSxtw),
+    uxtw(2, 0xE580_8000, 0, Loop::DoublewordUxtw),
+    sxtw(2, 0xE580_8000, 0, Loop::DoublewordSxtw),
+    scatter(3, 0xE5A0_A000, 3, Loop::Doubleword),
+    scatter(4, 0xE580_A000, 0, Loop::Doubleword),
+    uxtw(5, 0xE400_8000, 0, Loop::ByteUxtw),
+    sxtw(5, 0xE400_8000, 0, Loop::ByteSxtw),
+    uxtw(6, 0xE440_8000, 0, Loop::PackedByteUxtw),
+    sxtw(6, 0xE440_8000, 0, Loop::PackedByteSxtw),
+    scatter(7, 0xE400_A000, 0, Loop::Byte),
     strided(8, 0xA120_6000, 0x17),
     strided(9, 0xA120_E000, 0x13),
     immediate(10, 0xA160_6000, 0x17, 2),
     immediate(11, 0xA160_E000, 0x13, 4),
-    row(12, 0xE420_2000, 0xFFE0_E000),
+    quadword(12, 0xE420_2000),
 ];
 
 /// Bits 24..21 and 15..13 tell the rows apart.

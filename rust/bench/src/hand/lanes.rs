@@ -2,7 +2,6 @@
 
 use super::checks::{fault, Lent};
 use super::decode::{field, NONE, SXTW};
-use starshackle::Answer;
 
 /// Elements of `ESIZE` bytes, of which `SIZE` are stored, at offsets that are extended so. What is
 /// cold takes them by value, so that they need not lie in memory where it isn't called.
@@ -12,18 +11,18 @@ pub struct Lanes<'a, const ESIZE: usize, const SIZE: usize, const EXTENSION: u8>
     offsets: &'a [u8],
     pub values: &'a [u8],
     scale: u32,
-    /// Where offset 0 lies, counted from the window's start.
+    /// Where the register's offset 0 lies, counted from the window's start.
     start: u64,
-    /// How many places of the window an element fits at.
+    /// How many offsets of the window an element fits at.
     room: u64,
-    base: u64,
+    pub base: u64,
 }
 
-/// An element: its number, whether it is active, its place in the window.
+/// An element: its number, whether it is active, its offset in the window.
 pub struct Lane {
     pub e: usize,
     pub active: bool,
-    pub at: u64,
+    pub offset: u64,
 }
 
 impl<'a, const ESIZE: usize, const SIZE: usize, const EXTENSION: u8>
@@ -31,9 +30,8 @@ impl<'a, const ESIZE: usize, const SIZE: usize, const EXTENSION: u8>
 {
     /// Those of classes 1 to 7, or the stack's verdict.
     #[inline(always)]
-    pub fn scatter(lent: &Lent<'a>, scale: u32) -> Result<Self, u64> {
-        let offsets = lent.z(field(lent.word, 16, 31));
-        let mut lanes = Lanes::new(lent, offsets, scale);
+    pub fn from_base(lent: &Lent<'a>, scale: u32) -> Result<Self, u64> {
+        let mut lanes = Lanes::new(lent, lent.z(field(lent.word, 16, 31)), scale);
         lanes.start = lent.base(|| lanes.any_active())?.wrapping_sub(lent.base);
         Ok(lanes)
     }
@@ -58,36 +56,38 @@ impl<'a, const ESIZE: usize, const SIZE: usize, const EXTENSION: u8>
     #[inline(always)]
     pub fn each(&self, mut take: impl FnMut(Lane)) {
         if ESIZE < 8 {
-            for (number, offsets) in self.offsets.chunks_exact(8).enumerate() {
-                let (bits, first) = (self.mask[number], number * (8 / ESIZE));
+            let mut e = 0;
+            for (bits, offsets) in self.mask.iter().zip(self.offsets.chunks_exact(8)) {
                 for (k, offset) in offsets.chunks_exact(ESIZE).enumerate() {
-                    take(self.lane(first + k, bits >> (k * ESIZE), offset));
+                    take(self.lane(e, bits >> (k * ESIZE), offset));
+                    e += 1;
                 }
             }
         } else {
-            for (e, offset) in self.offsets.chunks_exact(ESIZE).enumerate() {
-                take(self.lane(e, self.mask[e * (ESIZE / 8)], offset));
+            let lanes = self.mask.chunks_exact(ESIZE / 8).zip(self.offsets.chunks_exact(ESIZE));
+            for (e, (bits, offset)) in lanes.enumerate() {
+                take(self.lane(e, bits[0], offset));
             }
         }
     }
 
-    /// An element by its number, the bits of the mask from its own on, and its offset.
+    /// An element by its number, the bits of the mask from its own on, and its register's offset.
     #[inline(always)]
     fn lane(&self, e: usize, bits: u8, offset: &[u8]) -> Lane {
-        let at = self.start.wrapping_add(extended::<EXTENSION>(offset) << self.scale);
-        Lane { e, active: bits & 1 == 1, at }
+        let offset = self.start.wrapping_add(extended::<EXTENSION>(offset) << self.scale);
+        Lane { e, active: bits & 1 == 1, offset }
     }
 
     /// What an element writes.
     #[inline(always)]
-    pub fn value(&self, e: usize) -> &'a [u8] {
-        &self.values[e * ESIZE..][..SIZE]
+    pub fn value(&self, e: usize) -> [u8; SIZE] {
+        self.values[e * ESIZE..][..SIZE].try_into().expect("there are so many bytes")
     }
 
-    /// Whether an element doesn't fit into the window at this place.
+    /// Whether an element doesn't fit into the window at this offset.
     #[inline(always)]
-    pub fn is_outside(&self, at: u64) -> bool {
-        at >= self.room
+    pub fn is_outside(&self, offset: u64) -> bool {
+        offset >= self.room
     }
 
     #[cold]
@@ -99,15 +99,15 @@ impl<'a, const ESIZE: usize, const SIZE: usize, const EXTENSION: u8>
 
     /// Tells the lowest active element outside the window, of which there is one.
     #[cold]
-    pub fn fault(self, answer: &mut Answer) -> u64 {
+    pub fn fault(self, answer: &mut [u64; 6]) -> u64 {
         let mut first = None;
         self.each(|lane| {
-            if lane.active && self.is_outside(lane.at) {
-                first = first.or(Some((lane.e, lane.at)));
+            if lane.active && self.is_outside(lane.offset) {
+                first = first.or(Some((lane.e, lane.offset)));
             }
         });
-        let (e, at) = first.expect("an element is outside");
-        fault(answer, e, self.base.wrapping_add(at))
+        let (e, offset) = first.expect("an element is outside");
+        fault(answer, e, self.base.wrapping_add(offset))
     }
 }
 

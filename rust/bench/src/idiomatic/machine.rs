@@ -2,7 +2,7 @@
 
 use super::refusal::Refusal;
 use super::word::Form;
-use starshackle::run::Flags;
+use starshackle::Flags;
 
 /// What a call is lent besides the window.
 #[derive(Clone, Copy)]

@@ -41,11 +41,11 @@ fn try_apply(base: u64, memory: &mut [u8], patch: &[u8]) -> Result<Done, Refusal
     let done = read(patch).ok_or(Refusal::BadPatch)?;
     let runs = Runs { rest: patch };
     for (run, Run { start: address, bytes }) in runs.enumerate() {
-        window.place(address, bytes.len()).ok_or(Refusal::Outside { run, address })?;
+        window.offset(address, bytes.len()).ok_or(Refusal::Outside { run, address })?;
     }
     for Run { start, bytes } in runs {
-        let place = window.place(start, bytes.len()).expect("the run was checked");
-        memory[place..place + bytes.len()].copy_from_slice(bytes);
+        let offset = window.offset(start, bytes.len()).expect("the run was checked");
+        memory[offset..offset + bytes.len()].copy_from_slice(bytes);
     }
     Ok(done)
 }

@@ -1,124 +1,72 @@
-//! A store that is defined and legal, and its elements.
+//! Running a store and making its patch, from an ordered map of byte writes.
 
-use super::active::Active;
+use super::access::{Access, Element};
+use super::encoding::encoded;
 use super::machine::Machine;
-use super::refusal::Refusal;
+use super::refusal::{answered, Done, Refusal};
 use super::window::Window;
-use super::word::{decoded, Form};
-use starshackle::run::Flags;
-use starshackle::{Extension, Store};
+use std::collections::BTreeMap;
 
-/// A store that has elements.
-pub struct Plan<'a> {
-    machine: Machine<'a>,
-    form: Form,
-    store: Store,
-    active: Active<'a>,
+/// As the model's, with the same arguments.
+#[inline(never)]
+#[allow(clippy::too_many_arguments)]
+pub fn store(
+    vb: usize,
+    flags: u64,
+    x: &[u64; 31],
+    sp: u64,
+    z: &[u8],
+    p: &[u8],
     base: u64,
-    /// The index register, or the immediate in bytes.
-    index: u64,
+    memory: &mut [u8],
+    word: u32,
+    patch: &mut [u8],
+    answer: &mut [u64; 6],
+) -> u64 {
+    let machine = Machine { vb, flags, x, sp, z, p };
+    let mut numbers = [0; 5];
+    let verdict = answered(try_store(machine, base, memory, word, patch), &mut numbers);
+    *answer = [0; 6];
+    answer[..5].copy_from_slice(&numbers);
+    verdict
 }
 
-/// An element of a store.
-pub struct Element<'a> {
-    pub active: bool,
-    pub address: u64,
-    /// What it writes.
-    pub bytes: &'a [u8],
+fn try_store(
+    machine: Machine,
+    base: u64,
+    memory: &mut [u8],
+    word: u32,
+    patch: &mut [u8],
+) -> Result<Done, Refusal> {
+    machine.check()?;
+    let window = Window::new(base, memory.len() as u64)?;
+    let access = Access::new(machine, word)?;
+    check_elements(&access, &window)?;
+    let active = || access.elements().filter(|element| element.active);
+    let mut writes = BTreeMap::new();
+    let mut done = Done::default();
+    for Element { address, bytes, .. } in active() {
+        writes.extend((address..=u64::MAX).zip(bytes.iter().copied()));
+        done.parts += 1;
+        done.bytes += bytes.len();
+    }
+    let string = encoded(&writes);
+    done.length = string.len();
+    patch.get_mut(..string.len()).ok_or(Refusal::NoRoom)?.copy_from_slice(&string);
+    for Element { address, bytes, .. } in active() {
+        let offset = window.offset(address, bytes.len()).expect("the element was checked");
+        memory[offset..offset + bytes.len()].copy_from_slice(bytes);
+    }
+    Ok(done)
 }
 
-impl<'a> Plan<'a> {
-    /// The store of a word, checked up to its window.
-    pub fn new(
-        machine: Machine<'a>,
-        window: (u64, u64),
-        word: u32,
-    ) -> Result<(Plan<'a>, Window), Refusal> {
-        machine.check()?;
-        let window = Window::new(window.0, window.1)?;
-        let (class, store) = decoded(word).ok_or(Refusal::Undefined)?;
-        let form = class.form;
-        machine.allow(form)?;
-        let active = match form {
-            Form::Strided { .. } => Active::counter(machine.p(8 + store.predicate)),
-            _ => Active::Predicate(machine.p(store.predicate)),
-        };
-        let x = |register: u64, other| *machine.x.get(register as usize).unwrap_or(&other);
-        let base = x(store.base, machine.sp);
-        let index = match form {
-            Form::Strided { immediate: true, .. } => (store.multiple * machine.vb as i64) as u64,
-            Form::Strided { .. } => x(store.index, 0).wrapping_mul(8),
-            _ => x(store.index, 0),
-        };
-        let plan = Plan { machine, form, store, active, base, index };
-        plan.check_stack()?;
-        Ok((plan, window))
+/// Verdict 7.
+fn check_elements(access: &Access, window: &Window) -> Result<(), Refusal> {
+    let outside = |element: &Element| {
+        element.active && window.offset(element.address, element.bytes.len()).is_none()
+    };
+    match access.elements().enumerate().find(|(_, element)| outside(element)) {
+        None => Ok(()),
+        Some((number, Element { address, .. })) => Err(Refusal::Fault { element: number, address }),
     }
-
-    /// Verdict 6.
-    fn check_stack(&self) -> Result<(), Refusal> {
-        let from_sp = self.form != Form::Quadword && self.store.base == 31;
-        let checked = from_sp && self.machine.has(Flags::SP_CHECK);
-        if checked && self.machine.sp % 16 != 0 {
-            let always = self.machine.has(Flags::SP_CHECK_NONE_ACTIVE);
-            if always || self.elements().any(|element| element.active) {
-                return Err(Refusal::Stack);
-            }
-        }
-        Ok(())
-    }
-
-    /// The elements, active or not.
-    pub fn elements(&self) -> impl Iterator<Item = Element<'a>> + '_ {
-        let vb = self.machine.vb;
-        let count = match self.form {
-            Form::Scatter { element, .. } => vb / element,
-            Form::Strided { registers, .. } => registers * vb / 8,
-            Form::Quadword => vb / 16,
-        };
-        (0..count).map(move |e| self.element(e))
-    }
-
-    fn element(&self, e: usize) -> Element<'a> {
-        let register = self.store.register as usize;
-        match self.form {
-            Form::Scatter { element, stored, scale, .. } => {
-                let from = e * element;
-                let address = self.base.wrapping_add(self.offset(from) << scale);
-                let bytes = &self.machine.z(register)[from..from + stored];
-                Element { active: self.active.at(from), address, bytes }
-            }
-            Form::Strided { registers, .. } => {
-                let each = self.machine.vb / 8;
-                let register = register + e / each * (16 / registers);
-                let from = e % each * 8;
-                let address = self.base.wrapping_add(self.index).wrapping_add(e as u64 * 8);
-                let bytes = &self.machine.z(register)[from..from + 8];
-                Element { active: self.active.at(e * 8), address, bytes }
-            }
-            Form::Quadword => {
-                let from = e * 16;
-                let base = number(&self.machine.z(self.store.base as usize)[from..]);
-                let address = base.wrapping_add(self.index);
-                let bytes = &self.machine.z(register)[from..from + 16];
-                Element { active: self.active.at(from), address, bytes }
-            }
-        }
-    }
-
-    /// The offset that stands from this byte of its register on.
-    fn offset(&self, from: usize) -> u64 {
-        let bytes = &self.machine.z(self.store.index as usize)[from..];
-        let low = u32::from_le_bytes(bytes[..4].try_into().expect("four bytes"));
-        match self.store.extension {
-            None => number(bytes),
-            Some(Extension::Uxtw) => u64::from(low),
-            Some(Extension::Sxtw) => low as i32 as u64,
-        }
-    }
-}
-
-/// The doubleword at the start of some bytes.
-fn number(bytes: &[u8]) -> u64 {
-    u64::from_le_bytes(bytes[..8].try_into().expect("eight bytes"))
 }

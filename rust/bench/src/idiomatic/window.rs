@@ -18,10 +18,10 @@ impl Window {
         }
     }
 
-    /// The index of the first of so many bytes from an address on, all of which are in the window.
-    pub fn place(&self, address: u64, bytes: usize) -> Option<usize> {
-        let place = address.checked_sub(self.base)?;
-        let end = place.checked_add(bytes as u64)?;
-        (end <= self.length).then_some(place as usize)
+    /// The offset of so many bytes from an address on, all of which are in the window.
+    pub fn offset(&self, address: u64, bytes: usize) -> Option<usize> {
+        let offset = address.checked_sub(self.base)?;
+        let end = offset.checked_add(bytes as u64)?;
+        (end <= self.length).then_some(offset as usize)
     }
 }

@@ -69,8 +69,8 @@ pub fn predicate(line: &Line, length: usize) -> Result<Vec<u8>, Failure> {
     let elements = row(line, bit, elements, &expected)?;
     let mut register = vec![0; length];
     for (element, bit) in elements.into_iter().enumerate() {
-        let place = element * bytes;
-        register[place / 8] |= bit << (place % 8);
+        let index = element * bytes;
+        register[index / 8] |= bit << (index % 8);
     }
     Ok(register)
 }

@@ -5,7 +5,7 @@ use super::reader::{MOST_BYTES, MOST_RUNS, RUN_MARK, TRAILER_MARK};
 use crate::random::Random;
 
 /// Where a run of a string starts; the trailer, where there is no further one.
-fn place(runs: &[Run], number: usize) -> usize {
+fn index(runs: &[Run], number: usize) -> usize {
     runs[..number].iter().map(Run::size).sum()
 }
 
@@ -87,24 +87,24 @@ pub fn pass_the_top(random: &mut Random, runs: &mut Vec<Run>) {
 
 // Of the string.
 
-fn change(random: &mut Random, string: &mut [u8], place: usize) {
-    string[place] ^= match random.below(3) {
+fn change(random: &mut Random, string: &mut [u8], index: usize) {
+    string[index] ^= match random.below(3) {
         0 => 1 << random.below(8),
         _ => 1 + random.below(255) as u8,
     };
 }
 
 pub fn change_byte(random: &mut Random, _: &[Run], string: &mut [u8]) {
-    let place = random.below(string.len());
-    change(random, string, place);
+    let index = random.below(string.len());
+    change(random, string, index);
 }
 
 /// Changes a byte that is no payload.
 pub fn change_head(random: &mut Random, runs: &[Run], string: &mut [u8]) {
     let number = random.below(runs.len() + 1);
     let size = if number < runs.len() { 12 } else { 4 };
-    let place = place(runs, number) + random.below(size);
-    change(random, string, place);
+    let index = index(runs, number) + random.below(size);
+    change(random, string, index);
 }
 
 /// The bytes behind the cut stay in the buffer, where the model must not read them.
@@ -140,7 +140,7 @@ pub fn second_trailer(_: &mut Random, runs: &[Run], string: &mut Vec<u8>) {
 /// Puts the trailer before a run.
 pub fn early_trailer(random: &mut Random, runs: &[Run], string: &mut Vec<u8>) {
     let number = any(random, runs);
-    let at = place(runs, number);
+    let at = index(runs, number);
     let count = random.pick(&[number, runs.len()]);
     string.truncate(string.len() - 4);
     string.splice(at..at, trailer(count));
@@ -148,12 +148,12 @@ pub fn early_trailer(random: &mut Random, runs: &[Run], string: &mut Vec<u8>) {
 
 pub fn big_endian_length(random: &mut Random, runs: &[Run], string: &mut [u8]) {
     let number = any(random, runs);
-    string[place(runs, number) + 10..][..2].reverse();
+    string[index(runs, number) + 10..][..2].reverse();
 }
 
 pub fn big_endian_start(random: &mut Random, runs: &[Run], string: &mut [u8]) {
     let number = any(random, runs);
-    string[place(runs, number) + 2..][..8].reverse();
+    string[index(runs, number) + 2..][..8].reverse();
 }
 
 /// Writes another length than that of the bytes, which stay.
@@ -162,7 +162,7 @@ pub fn other_length(random: &mut Random, runs: &[Run], string: &mut [u8]) {
     let length = runs[number].bytes.len() as u16;
     let others = [0, length - 1, length + 1, length + 256, length + 12, u16::MAX];
     let other = random.pick(&others);
-    string[place(runs, number) + 10..][..2].copy_from_slice(&other.to_le_bytes());
+    string[index(runs, number) + 10..][..2].copy_from_slice(&other.to_le_bytes());
 }
 
 pub fn other_count(random: &mut Random, runs: &[Run], string: &mut [u8]) {
@@ -187,7 +187,7 @@ pub fn other_mark(random: &mut Random, runs: &[Run], string: &mut [u8]) {
     let any = random.number() as u8 | 0x80;
     let marks =
         [other, [second, first], [first, any], [any, second], [0, 0], [first | 0x20, second]];
-    string[place(runs, number)..][..2].copy_from_slice(&random.pick(&marks));
+    string[index(runs, number)..][..2].copy_from_slice(&random.pick(&marks));
 }
 
 /// Bytes at random, often behind a mark.

@@ -9,9 +9,9 @@ pub mod windows;
 
 use crate::random::Random;
 use crate::reference::Outcome;
-use crate::report::{answers, Report};
+use crate::report::{answers, first_difference, Report};
 use crate::workers::spread;
-use crate::GARBAGE;
+use crate::{GARBAGE, LONGEST};
 use tally::{Seen, Tally};
 use windows::Window;
 
@@ -22,7 +22,7 @@ pub const SEED: u64 = 1;
 /// Bytes on either side of the memory, which no patch may write.
 const MARGIN: usize = 64;
 /// Bytes from which memories are taken.
-const NOISE: usize = MARGIN + reader::LONGEST + 1 + MARGIN + 1024;
+const NOISE: usize = MARGIN + LONGEST + 1 + MARGIN + 1024;
 
 /// Compares so many strings, which have to hit everything that is counted.
 pub fn run(report: &Report, strings: u64, seed: u64, threads: usize) {
@@ -67,8 +67,8 @@ impl Comparison<'_> {
         let mut random = Random::new((self.seed << 32).wrapping_add(number));
         let kind = random.below(kinds::KINDS.len());
         let case = kinds::case(&mut random, kind);
-        let place = random.below(windows::KINDS.len());
-        let window = windows::window(&mut random, place, &case.runs);
+        let around = random.below(windows::KINDS.len());
+        let window = windows::window(&mut random, around, &case.runs);
         let from = random.below(NOISE - 2 * MARGIN - window.length);
         let memory = &self.noise[from..][..window.length + 2 * MARGIN];
         let (seed, string, name) = (self.seed, &case.string, kinds::KINDS[kind].name);
@@ -79,7 +79,7 @@ impl Comparison<'_> {
         if *string != before {
             self.report.tell(|| format!("bytes lent and changed: {}", subject.text()));
         }
-        self.tally.count(&Seen { kind, window: place, judged, applied });
+        self.tally.count(&Seen { kind, window: around, judged, applied });
     }
 
     /// Judges the string in both ways and compares what they answer.
@@ -99,7 +99,7 @@ impl Comparison<'_> {
         if !model.is(&right) || by_model != by_reader {
             self.report.tell(|| {
                 let answers = answers(&model, &right);
-                let memory = first_difference(&by_model, &by_reader);
+                let memory = first_difference("memory", &by_model, &by_reader, MARGIN);
                 format!("apply {}\n{answers}{memory}", subject.text())
             });
         }
@@ -116,17 +116,6 @@ impl Subject<'_> {
             "string {number} of seed {seed} ({kind}): {}\n  window at {base:X}h, {length} bytes",
             hex.join(" ")
         )
-    }
-}
-
-/// Where the memories differ first, counted from the window's start; empty where they don't.
-fn first_difference(model: &[u8], right: &[u8]) -> String {
-    match model.iter().zip(right).position(|(model, right)| model != right) {
-        None => String::new(),
-        Some(place) => {
-            let (at, model, right) = (place as i64 - MARGIN as i64, model[place], right[place]);
-            format!("\n  memory differs from byte {at} on: model {model:02X}, right {right:02X}")
-        }
     }
 }
 

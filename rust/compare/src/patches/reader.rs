@@ -1,20 +1,16 @@
 //! A reader of patches, made from the description of a set's encoding: bytes are a patch when the
 //! set that they write, encoded again, gives the same bytes.
 
-use crate::reference::{Outcome, DONE};
+use crate::reference::Outcome;
+use crate::verdicts::{BAD_PATCH, DONE, OUTSIDE, WINDOW};
+use crate::LONGEST;
 use std::collections::BTreeMap;
-
-pub const WINDOW: u64 = 3;
-pub const BAD_PATCH: u64 = 9;
-pub const OUTSIDE: u64 = 10;
 
 pub const RUN_MARK: [u8; 2] = [0x50, 0x52];
 pub const TRAILER_MARK: [u8; 2] = [0x50, 0x45];
 
 pub const MOST_RUNS: usize = 64;
 pub const MOST_BYTES: usize = 1024;
-/// The longest window.
-pub const LONGEST: usize = 65_536;
 /// 2^64, behind the last address.
 pub const TOP: u128 = 1 << 64;
 

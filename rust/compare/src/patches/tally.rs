@@ -1,10 +1,11 @@
 //! How often strings, windows and verdicts were hit.
 
 use super::kinds::KINDS;
-use super::reader::{BAD_PATCH, MOST_RUNS, OUTSIDE, WINDOW};
+use super::reader::MOST_RUNS;
 use super::windows::KINDS as WINDOWS;
-use crate::reference::{Outcome, DONE};
+use crate::reference::Outcome;
 use crate::report::Report;
+use crate::verdicts::{BAD_PATCH, DONE, OUTSIDE, WINDOW};
 
 const VERDICTS: [u64; 4] = [DONE, WINDOW, BAD_PATCH, OUTSIDE];
 
@@ -29,7 +30,7 @@ pub struct Tally {
     outside: [u64; 3],
 }
 
-fn place(verdict: u64) -> usize {
+fn column(verdict: u64) -> usize {
     VERDICTS.iter().position(|&one| one == verdict).expect("applying has four verdicts")
 }
 
@@ -53,8 +54,8 @@ impl Tally {
 
     pub fn count(&mut self, seen: &Seen) {
         let Seen { kind, window, judged, applied } = seen;
-        self.cells[*kind][*window][place(applied.verdict)] += 1;
-        self.judged[place(judged.verdict)] += 1;
+        self.cells[*kind][*window][column(applied.verdict)] += 1;
+        self.judged[column(judged.verdict)] += 1;
         if judged.verdict == BAD_PATCH {
             let runs = judged.numbers[0] as usize;
             self.acceptable[if runs == MOST_RUNS { 3 } else { runs.min(2) }] += 1;

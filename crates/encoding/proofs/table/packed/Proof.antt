@@ -17,7 +17,7 @@ Inv-loop k rows i₀ i = i ≤ k
 abbrev μ-loop : tie.MeasureT-loop
 μ-loop k rows i₀ i = length classes - i
 
--- a row's number is one more than its place
+-- a class's number is one more than its row
 numbered : (i : ℕ) → i < length classes → getD (column packedOf) i 0 % 256 ≡ suc i
 numbered i h = ap (λ (n : ℕ). n % 256) (column-at packedOf 0 i h) ∙ packed-number i h
 

@@ -1,0 +1,151 @@
+// The patch of stretches in ascending order: heads and trailer, with payloads copied from the memory that was written.
+ghost use mathlib.Core.Path.{_≡_};
+ghost use mathlib.Core.List.{[], _∷_};
+ghost use Prim.Native.Nat.{_+_, _-_, _^_, _<_, _≤_};
+ghost use lib.ListN.{length};
+ghost use Rattle.writes.specs.Encoding.{trailer, encodeRuns};
+ghost use Rattle.window.specs.Overwriting.{overwritten};
+ghost use Rattle.ordering.specs.Keys.{entries};
+ghost use Rattle.stretches.specs.Intervals.{Separate, total};
+ghost use Rattle.stretches.specs.Stretches.{merged, Ordered};
+ghost use Rattle.cutting.specs.Cutting.{headBytes, part, runBytes, cut, spaced};
+
+// A mark: 50h and its second byte.
+fn put_mark(out: &mut [u8], at: usize, second: u8)
+    requires { ⌜ at + 2 ≤ length (now out) ⌝ }
+    ensures { λ _. ⌜ now (out .exit) ≡ overwritten (now (out .entry)) at (0x50 ∷ second ∷ []) ⌝ }
+{
+    out[at] = 0x50;
+    out[at + 1] = second;
+}
+
+// What follows the last run: the mark and the number of runs.
+fn put_trailer(out: &mut [u8], at: usize, runs: usize)
+    requires { ⌜ at + 4 ≤ length (now out) ⌝ }
+    ensures { λ _. ⌜ now (out .exit) ≡ overwritten (now (out .entry)) at (trailer runs) ⌝ }
+{
+    put_mark(out, at, 0x45);
+    window::put16(out, at + 2, runs as u64);
+}
+
+// A run's mark, start and length.
+fn put_head(out: &mut [u8], at: usize, start: u64, len: u64)
+    requires { ⌜ at + 12 ≤ length (now out) ⌝ }
+    ensures { λ _. ⌜ now (out .exit) ≡ overwritten (now (out .entry)) at (headBytes start len) ⌝ }
+{
+    put_mark(out, at, 0x52);
+    window::put64(out, at + 2, start);
+    window::put16(out, at + 10, len);
+}
+
+// Two bytes of memory from offset p on, put at index `at` as a number.
+fn move2(out: &mut [u8], at: usize, memory: &[u8], p: usize)
+    requires { ⌜ (at + 2 ≤ length (now out)) × (p + 2 ≤ length (now memory)) ⌝ }
+    ensures { λ _. ⌜ now (out .exit) ≡ overwritten (now (out .entry)) at (part (now (memory .entry)) p 2) ⌝ }
+{
+    let x = window::le16(memory, p);
+    window::put16(out, at, x);
+}
+
+// Eight bytes.
+fn move8(out: &mut [u8], at: usize, memory: &[u8], p: usize)
+    requires { ⌜ (at + 8 ≤ length (now out)) × (p + 8 ≤ length (now memory)) ⌝ }
+    ensures { λ _. ⌜ now (out .exit) ≡ overwritten (now (out .entry)) at (part (now (memory .entry)) p 8) ⌝ }
+{
+    let x = window::le64(memory, p);
+    window::put64(out, at, x);
+}
+
+// n bytes of memory from offset p on, put at index `at`. Parts are made only for lengths that one or two moves of a
+// width don't cover.
+fn copy_at(out: &mut [u8], at: usize, memory: &[u8], p: usize, n: usize)
+    requires { ⌜ (1 ≤ n) × (at + n ≤ length (now out)) × (p + n ≤ length (now memory)) ⌝ }
+    ensures { λ _. ⌜ now (out .exit) ≡ overwritten (now (out .entry)) at (part (now (memory .entry)) p n) ⌝ }
+{
+    if n == 8 {
+        move8(out, at, memory, p);
+        return;
+    }
+    if n == 1 {
+        out[at] = memory[p];
+        return;
+    }
+    let to = at + n;
+    let q = p + n;
+    if n < 5 {
+        move2(out, at, memory, p);
+        move2(out, to - 2, memory, q - 2);
+        return;
+    }
+    if (8 < n) & (n < 17) {
+        move8(out, at, memory, p);
+        move8(out, to - 8, memory, q - 8);
+        return;
+    }
+    window::copy(&mut out[at..to], &memory[p..q]);
+}
+
+// The run from offset a up to b: head and payload.
+fn put_run(out: &mut [u8], at: usize, w: u64, memory: &[u8], a: usize, b: usize)
+    requires { ⌜ (at + 12 + (b - a) ≤ length (now out)) × (a < b) × (b ≤ length (now memory)) × (w + length (now memory) ≤ 2 ^ 64) ⌝ }
+    ensures { λ _. ⌜ now (out .exit) ≡ overwritten (now (out .entry)) at (runBytes w (now (memory .entry)) a (b - a)) ⌝ }
+{
+    put_head(out, at, w + a as u64, (b - a) as u64);
+    copy_at(out, at + 12, memory, a, b - a);
+}
+
+// The patch of stretches: runs and trailer. Answers its length.
+pub fn compose(w: u64, stretches: &[u32], m: usize, memory: &[u8], out: &mut [u8]) -> usize
+    requires { ⌜ Ordered (now stretches) m (length (now memory)) × (w + length (now memory) ≤ 2 ^ 64)
+        × (total (merged (entries (now stretches) 0 m)) + 4 ≤ length (now out)) ⌝ }
+    ensures { λ r. ⌜ r ≡ total (merged (entries (now (stretches .entry)) 0 m)) + 4 ⌝ }
+    ensures { λ _.
+        ⌜ now (out .exit) ≡ overwritten (now (out .entry)) 0
+        (encodeRuns (cut w (now (memory .entry)) (merged (entries (now (stretches .entry)) 0 m)))) ⌝ }
+{
+    let mut to = 0;
+    let mut runs = 0;
+    let mut t = 0;
+    while t < m {
+        let g = stretches::grown(stretches, m, t);
+        let a = g.start;
+        let b = g.end;
+        put_run(out, to, w, memory, a, b);
+        to = to + 12 + (b - a);
+        runs += 1;
+        t = g.next;
+    }
+    put_trailer(out, to, runs);
+    to + 4
+}
+
+// The patch of `count` runs of `size` bytes each, `gap` bytes from one start to the next. Answers its length.
+pub fn compose_spaced(
+    w: u64,
+    first: usize,
+    gap: usize,
+    size: usize,
+    count: usize,
+    memory: &[u8],
+    out: &mut [u8],
+) -> usize
+    requires { ⌜ (1 ≤ size) × (gap ≤ 65536) × (length (now memory) ≤ 65536) × (w + length (now memory) ≤ 2 ^ 64)
+        × (total (spaced first gap size count) + 4 ≤ length (now out)) ⌝ }
+    requires { ⌜ Separate (length (now memory)) 0 (spaced first gap size count) ⌝ }
+    ensures { λ r. ⌜ r ≡ total (spaced first gap size count) + 4 ⌝ }
+    ensures { λ _.
+        ⌜ now (out .exit) ≡ overwritten (now (out .entry)) 0
+        (encodeRuns (cut w (now (memory .entry)) (spaced first gap size count))) ⌝ }
+{
+    let mut to = 0;
+    let mut p = first;
+    let mut t = 0;
+    while t < count {
+        put_run(out, to, w, memory, p, p + size);
+        to = to + 12 + size;
+        p += gap;
+        t += 1;
+    }
+    put_trailer(out, to, count);
+    to + 4
+}

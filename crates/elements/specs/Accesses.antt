@@ -1,0 +1,182 @@
+-- A store's numbers, decided once before its elements are walked. For the contracts of the code's own functions. Assumes nothing.
+use Prim.Native.Nat.{ℕ, zero, suc, _+_, _-_, _*_, _/_, _%_, _^_, _≤_, _<_}
+use mathlib.Core.Bool.{Bool, cond, _&&_}
+use mathlib.Core.Logic.{_⊎_}
+use mathlib.Core.Path.{_≡_}
+use mathlib.Core.List.{List, [], _++_}
+use lib.Dec.{eqb, ltb, leb}
+use lib.ListN.{take, drop}
+use Rattle.encoding.specs.Classes.{Class}
+use Rattle.encoding.specs.declared.Extension.{Extension}
+use Rattle.encoding.specs.declared.Extension.the-variants.{None, Uxtw, Sxtw}
+use Rattle.encoding.specs.declared.ScatterFields.{ScatterFields}
+use Rattle.encoding.specs.declared.StridedFields.{StridedFields}
+use Rattle.encoding.specs.declared.QuadwordFields.{QuadwordFields}
+use Rattle.window.specs.LittleEndian.{leVal}
+use Rattle.writes.specs.Elements.{Element}
+use Rattle.elements.specs.Machine.{Machine, baseOf, indexOf, register, bitAt}
+use Rattle.elements.specs.Counter.{counterOf, unitOf, countIn}
+use Rattle.elements.specs.Stores.{stepOf, sizeOf, perRegister, signed32, strideOf, startOf}
+use Rattle.elements.specs.Elements.{actives}
+use Rattle.elements.specs.declared.VectorAccess.{VectorAccess}
+use Rattle.elements.specs.declared.StridedAccess.{StridedAccess}
+
+-- ---- scatter and quadword stores: an offset in each element of a vector register
+
+-- the offset whose element starts at byte `at` of its register
+abbrev pub offsetFrom : Extension → List ℕ → ℕ → ℕ
+offsetFrom None reg at = leVal (take 8 (drop at reg))
+offsetFrom Uxtw reg at = leVal (take 4 (drop at reg))
+offsetFrom Sxtw reg at = signed32 (leVal (take 4 (drop at reg)))
+
+abbrev pub offsetBytes : Extension → ℕ
+offsetBytes None = 8
+offsetBytes Uxtw = 4
+offsetBytes Sxtw = 4
+
+-- the address by that offset
+abbrev pub addressFrom : ℕ → Extension → ℕ → List ℕ → ℕ → ℕ
+addressFrom base x scale offsets at = (base + offsetFrom x offsets at * 2 ^ scale) % 2 ^ 64
+
+unfoldable pub vectorAddress : VectorAccess → List ℕ → ℕ → ℕ
+vectorAddress v offsets e = addressFrom (v .base) (v .extension) (v .scale) offsets (e * v .step)
+
+unfoldable pub vectorActive : VectorAccess → List ℕ → ℕ → Bool
+vectorActive v governing e = bitAt governing (e * v .step)
+
+unfoldable pub vectorElement : VectorAccess → List ℕ → List ℕ → ℕ → Element
+vectorElement v offsets stored e =
+    record { number = e; address = vectorAddress v offsets e; bytes = take (v .size) (drop (e * v .step) stored) }
+
+abbrev pub scatterAccess : Machine → Class → ScatterFields → VectorAccess
+scatterAccess m c f =
+    record {
+      base = baseOf m (f .rn);
+      extension = f .extension;
+      scale = c .scale;
+      step = stepOf c;
+      size = sizeOf c;
+      count = perRegister m c;
+      offsets = f .zm;
+      governing = f .pg;
+      stored = f .zt;
+    }
+
+abbrev pub quadwordAccess : Machine → Class → QuadwordFields → VectorAccess
+quadwordAccess m c f =
+    record {
+      base = indexOf m (f .rm);
+      extension = None;
+      scale = 0;
+      step = stepOf c;
+      size = sizeOf c;
+      count = perRegister m c;
+      offsets = f .zn;
+      governing = f .pg;
+      stored = f .zt;
+    }
+
+-- ---- doublewords under a counter: those that are active are one stretch
+
+-- how many have their mask bit below the count
+unfoldable pub borderOf : ℕ → ℕ
+borderOf v = (countIn v * unitOf v + 7) / 8
+
+-- the first of n that is active, and the one behind the last; both are 0 where none is. `x - (x - y)` is the lower of two numbers.
+unfoldable pub lowOf : ℕ → ℕ → ℕ
+lowOf v n = cond (eqb (v % 16) 0) 0 (cond (ltb v (2 ^ 15)) 0 (borderOf v - (borderOf v - n)))
+
+unfoldable pub highOf : ℕ → ℕ → ℕ
+highOf v n = cond (eqb (v % 16) 0) 0 (cond (ltb v (2 ^ 15)) (borderOf v - (borderOf v - n)) n)
+
+-- ---- strided stores
+
+unfoldable pub stridedAddress : StridedAccess → ℕ → ℕ
+stridedAddress s e = (s .start + e * s .step) % 2 ^ 64
+
+unfoldable pub stridedActive : StridedAccess → ℕ → Bool
+stridedActive s e = leb (s .low) e && ltb e (s .high)
+
+unfoldable pub stridedElement : StridedAccess → ℕ → List ℕ → ℕ → Element
+stridedElement s vb z e =
+    record {
+      number = e;
+      address = stridedAddress s e;
+      bytes = take (s .size) (drop (e % s .per * s .step) (register vb z (s .first + e / s .per * s .stride)));
+    }
+
+abbrev pub stridedAccess : Machine → Class → StridedFields → StridedAccess
+stridedAccess m c f =
+    record {
+      start = startOf m c (f .rn) (f .rm) (f .multiple) % 2 ^ 64;
+      low = lowOf (counterOf m (f .pc)) (c .nreg * perRegister m c);
+      high = highOf (counterOf m (f .pc)) (c .nreg * perRegister m c);
+      step = stepOf c;
+      size = sizeOf c;
+      per = perRegister m c;
+      nreg = c .nreg;
+      first = f .first;
+      stride = strideOf c;
+    }
+
+-- ---- the active elements of an access
+
+unfoldable pub vectorElements : VectorAccess → List ℕ → List ℕ → List ℕ → List Element
+vectorElements v offsets governing stored = actives (vectorActive v governing) (vectorElement v offsets stored) (v .count) 0
+
+unfoldable pub stridedElements : StridedAccess → ℕ → List ℕ → List Element
+stridedElements s vb z = actives (stridedActive s) (stridedElement s vb z) (s .nreg * s .per) 0
+
+-- the bytes of n elements from number e on, one after the other
+unfoldable pub bytesFrom : (ℕ → Element) → ℕ → ℕ → List ℕ
+bytesFrom el zero e = []
+bytesFrom el (suc n) e = el e .bytes ++ bytesFrom el n (suc e)
+
+-- the bytes of a strided store's active elements
+unfoldable pub stridedBytes : StridedAccess → ℕ → List ℕ → List ℕ
+stridedBytes s vb z = bytesFrom (stridedElement s vb z) (s .high - s .low) (s .low)
+
+-- elements e up to `to` are active and of register r
+pub record PartOf (s : StridedAccess) (r e to : ℕ) : Type 0 where
+  pub row : r < s .nreg
+  pub from : r * s .per ≤ e
+  pub some : e < to
+  pub until : to ≤ r * s .per + s .per
+  pub low : s .low ≤ e
+  pub high : to ≤ s .high
+
+-- an offset's element has 8 bytes, or else 16 where the offset is the whole element, and 4 where it is extended
+abbrev pub otherStep : Extension → ℕ
+otherStep None = 16
+otherStep Uxtw = 4
+otherStep Sxtw = 4
+
+-- what holds of an access on a machine with registers of vb bytes
+pub record VectorSound (v : VectorAccess) (vb : ℕ) : Type 0 where
+  pub scale : v .scale < 64
+  pub offset : offsetBytes (v .extension) ≤ v .step
+  pub some : 0 < v .size
+  pub size : v .size ≤ v .step
+  pub steps : (v .step ≡ 8) ⊎ (v .step ≡ otherStep (v .extension))
+  pub wide : v .step ≤ 16
+  pub doubleword : v .size ≡ 8 → v .step ≡ 8
+  pub whole : v .count * v .step ≤ vb
+  pub low : 16 ≤ vb
+  pub high : vb ≤ 256
+  pub eighth : vb % 8 ≡ 0
+  pub offsets : v .offsets < 32
+  pub governing : v .governing < 16
+  pub stored : v .stored < 32
+
+pub record StridedSound (s : StridedAccess) (vb : ℕ) : Type 0 where
+  pub order : s .low ≤ s .high
+  pub most : s .high ≤ s .nreg * s .per
+  pub packed : s .step ≡ s .size
+  pub wide : 8 ≤ s .step
+  pub some : 0 < s .size
+  pub size : s .size ≤ s .step
+  pub whole : s .per * s .step ≤ vb
+  pub per : 0 < s .per
+  pub nreg : s .nreg ≤ 4
+  pub high : vb ≤ 256
+  pub last : s .first + (s .nreg - 1) * s .stride < 32

@@ -1,0 +1,5 @@
+pub mod Concluding
+pub mod Writing
+pub mod Finishing
+pub mod Ready
+pub mod Single

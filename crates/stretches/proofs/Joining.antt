@@ -1,0 +1,161 @@
+-- Keys joined, one after another. Assumes nothing.
+use mathlib.Core.Path.{_≡_, sym, ap, ap₂, _∙_, subst}
+use Prim.Native.Nat.{ℕ, zero, suc, _+_, _-_, _*_, _/_, _%_, _≤_, _<_}
+use mathlib.Core.List.{List, [], _∷_, _++_, append-assoc}
+use native.Mathlib.Nat.{suc-mul, mul-le-mul-right}
+use native.Mathlib.Omega.{arith}
+use native.Mathlib.Numerals.{add-one}
+use lib.ListN.{length, getD, set, length-set}
+use lib.Seq.{getD-set-same, getD-set-other, set-getD}
+use borrow.Author.Tests.{eq-eqb, ne-eqb}
+use Rattle.ordering.specs.Keys.{numberOf, entries, Each}
+use Rattle.ordering.proofs.Sorting.{entries-cons, entries-none, entries-all, entries-same, entries-snoc, length-entries, entry}
+use Rattle.stretches.specs.Stretches.{startOf, bytesOf, joinedFrom, joined, Sized}
+
+-- ---- the digits of a stretch that grows
+
+module _ (s size : ℕ) (h : bytesOf s + size ≤ 256) where
+  pub grown-start : startOf (s + size * 256) ≡ startOf s
+  grown-start = omega arith
+
+  pub grown-bytes : bytesOf (s + size * 256) ≡ bytesOf s + size
+  grown-bytes = omega arith
+
+  pub grown-number : numberOf (s + size * 256) ≡ numberOf s
+  grown-number = omega arith
+
+-- ---- the two ways of a step
+
+module _ (size s last k : ℕ) (K : List ℕ) where
+  pub joined-on : startOf last + size ≡ startOf k → joinedFrom size s last (k ∷ K) ≡ joinedFrom size (s + size * 256) k K
+  unfolding joinedFrom
+  joined-on h = simp (eq-eqb (last / 65536 + size) (k / 65536) h)
+
+  pub joined-new : (startOf last + size ≡ startOf k → ⊥) → joinedFrom size s last (k ∷ K) ≡ s ∷ joinedFrom size k k K
+  unfolding joinedFrom
+  joined-new h = simp (ne-eqb (last / 65536 + size) (k / 65536) h)
+
+-- ---- keys by index
+
+each-at : (P : ℕ → Type 0) (K : List ℕ) (t : ℕ) → Each P K → t < length K → P (getD K t 0)
+each-at P [] t e h = absurd (omega arith)
+each-at P (k ∷ K) zero e h = e .0
+each-at P (k ∷ K) (suc t) e h = each-at P K t (e .1) (omega arith)
+
+each-entry : (P : ℕ → Type 0) (A : List ℕ) (m t : ℕ) → Each P (entries A 0 m) → t < m → P (getD A t 0)
+each-entry P A m t e h = subst P (entry A m t h) (each-at P (entries A 0 m) t e (omega (arith, length-entries A 0 m)))
+
+-- ---- of m stretches so far the last is s; the keys from t on are left
+
+pub record Joining (A : List ℕ) (n size N : ℕ) (B : List ℕ) (s last m t : ℕ) : Type 0 where
+  pub most : t ≤ n
+  pub some : 0 < m
+  pub few : m ≤ t
+  pub room : n ≤ N
+  pub long : length B ≡ N
+  pub low : startOf s < 65536
+  pub bytes : bytesOf s ≤ t * size
+  pub here : getD B (m - 1) 0 ≡ s
+  pub same : entries B 0 (m - 1) ++ joinedFrom size s last (entries A t (n - t)) ≡ joined size (entries A 0 n)
+
+-- the open stretch behind those before
+closed : (B : List ℕ) (s m : ℕ) → 0 < m → m ≤ length B → getD B (m - 1) 0 ≡ s → entries B 0 m ≡ entries B 0 (m - 1) ++ (s ∷ [])
+closed B s m h l e =
+    let w : m ≡ (m - 1) + 1 = omega arith in
+    ap (entries B 0) w ∙ ap (λ (C : List ℕ). entries C 0 ((m - 1) + 1)) (sym (ap (set B (m - 1)) (sym e) ∙ set-getD B (m - 1) 0))
+    ∙ entries-snoc B (m - 1) s (omega arith)
+
+module _ (A : List ℕ) (n size N : ℕ) (z : Sized A n size) where
+  size-at : (t : ℕ) → t < n → bytesOf (getD A t 0) ≡ size
+  size-at t h = each-entry (λ k. bytesOf k ≡ size) A n t (z .each) h
+
+  pub joining-first : (B : List ℕ) → length (set B 0 (getD A 0 0)) ≡ N → n ≤ length B → 0 < n → startOf (getD A 0 0) < 65536
+      → Joining A n size N (set B 0 (getD A 0 0)) (getD A 0 0) (getD A 0 0) 1 1
+  unfolding entries joined
+  joining-first B l r h f =
+      let w : 0 + 1 ≡ 1 = omega arith in
+      let g : entries A 0 n ≡ getD A 0 0 ∷ entries A 1 (n - 1) =
+      sym (entries-all A n) ∙ entries-cons A n 0 h ∙ ap (λ (y : ℕ). getD A 0 0 ∷ entries A y (n - y)) w in
+      record {
+        most = omega arith;
+        some = omega arith;
+        few = omega arith;
+        room = omega (arith, length-set B 0 (getD A 0 0));
+        long = l;
+        low = f;
+        bytes = omega (arith, size-at 0 h);
+        here = getD-set-same B 0 (getD A 0 0) 0 (omega arith);
+        same = ap (joined size) (sym g);
+      }
+
+  module _ (B : List ℕ) (s last m t : ℕ) (j : Joining A n size N B s last m t) where
+    pub joining-room : m ≤ length B
+    joining-room = omega (arith, j .few, j .most, j .long, j .room)
+
+    module _ (h : t < n) where
+      pub joining-small : bytesOf s + size ≤ 256
+      joining-small = omega (arith, j .bytes, z .few, suc-mul t size, mul-le-mul-right size (let w : suc t ≤ n = omega arith in w))
+
+      pub joining-on : (a b s′ : ℕ) → a ≡ startOf last → b ≡ startOf (getD A t 0) → a + size ≡ b → s′ ≡ s + size * 256
+          → Joining A n size N (set B (m - 1) s′) s′ (getD A t 0) m (t + 1)
+      joining-on a b s′ ea eb g e =
+          let k : ℕ = getD A t 0 in
+          let K : List ℕ = entries A (t + 1) (n - (t + 1)) in
+          record {
+            most = omega arith;
+            some = j .some;
+            few = omega (arith, j .few);
+            room = j .room;
+            long = length-set B (m - 1) s′ ∙ j .long;
+            low = omega (arith, ap (λ (y : ℕ). y / 65536) e, grown-start s size joining-small, j .low);
+            bytes = omega (
+              arith,
+              j .bytes,
+              ap (λ (y : ℕ). y / 256 % 256) e,
+              grown-bytes s size joining-small,
+              suc-mul t size,
+              ap (λ (y : ℕ). y * size) (add-one t),
+            );
+            here = getD-set-same B (m - 1) s′ 0 (omega (arith, j .some, joining-room));
+            same = ap₂ (λ (X Y : List ℕ). X ++ Y)
+                (entries-same (set B (m - 1) s′) B (m - 1) (λ i l. getD-set-other B (m - 1) i s′ 0 (λ q. omega arith)))
+                (ap (λ (y : ℕ). joinedFrom size y k K) e
+                ∙ sym (ap (joinedFrom size s last) (entries-cons A n t h) ∙ joined-on size s last k K (omega arith)))
+                ∙ j .same;
+          }
+
+      pub joining-new : (a b : ℕ) → a ≡ startOf last → (b ≡ startOf (getD A t 0)) × (b < 65536) → (a + size ≡ b → ⊥)
+          → Joining A n size N (set B m (getD A t 0)) (getD A t 0) (getD A t 0) (m + 1) (t + 1)
+      joining-new a b ea eb g =
+          let k : ℕ = getD A t 0 in
+          let e0 : b ≡ startOf k = eb .0 in
+          let K : List ℕ = entries A (t + 1) (n - (t + 1)) in
+          let C : List ℕ = set B m k in
+          let w : (m + 1) - 1 ≡ m = omega arith in
+          record {
+            most = omega arith;
+            some = omega arith;
+            few = omega (arith, j .few);
+            room = j .room;
+            long = length-set B m k ∙ j .long;
+            low = omega (arith, eb .1);
+            bytes = omega (arith, size-at t h, suc-mul t size, ap (λ (y : ℕ). y * size) (add-one t));
+            here = ap (λ (y : ℕ). getD C y 0) w ∙ getD-set-same B m k 0 (omega (arith, j .few, j .long, j .room));
+            same = ap (λ (X : List ℕ). X ++ joinedFrom size k k K)
+                (ap (entries C 0) w ∙ entries-same C B m (λ i l. getD-set-other B m i k 0 (λ q. omega arith))
+                ∙ closed B s m (j .some) joining-room (j .here))
+                ∙ append-assoc (entries B 0 (m - 1)) (s ∷ []) (joinedFrom size k k K)
+                ∙ ap (λ (X : List ℕ). entries B 0 (m - 1) ++ X)
+                (sym (ap (joinedFrom size s last) (entries-cons A n t h) ∙ joined-new size s last k K (λ q. g (omega arith))))
+                ∙ j .same;
+          }
+
+    pub joining-done : n ≤ t → entries B 0 m ≡ joined size (entries A 0 n)
+    unfolding joinedFrom
+    joining-done h =
+        closed B s m (j .some) joining-room (j .here)
+        ∙ ap (λ (X : List ℕ). entries B 0 (m - 1) ++ X) (sym (ap (joinedFrom size s last) (entries-none A n t h))) ∙ j .same
+
+pub joined-none : (A B : List ℕ) (n size : ℕ) → n ≡ 0 → entries B 0 0 ≡ joined size (entries A 0 n)
+unfolding entries joined
+joined-none A B n size e = ap (λ (y : ℕ). joined size (entries A 0 y)) (sym e)

@@ -1,0 +1,67 @@
+-- The promises of the table of verdicts. Assumes nothing.
+use mathlib.Core.Path.{_≡_, refl, ap, _∙_}
+use mathlib.Core.Bool.{Bool, true}
+use mathlib.Core.Logic.{_↔_}
+use mathlib.Core.Option.{Option, none, some}
+use Prim.Native.Nat.{ℕ, suc}
+use native.Mathlib.Omega.{arith}
+use borrow.Author.Tests.{ltb-true, lt-ltb}
+use lib.ListN.{length}
+use Rattle.encoding.specs.declared.Decoded.{Decoded}
+use Rattle.writes.specs.Elements.{Element}
+use Rattle.elements.specs.Machine.{Machine}
+use Rattle.verdicts.specs.Verdicts.{elementsFor, patchOf, firstOutside, faultOf, row, table, refusalNumber, number}
+use Rattle.verdicts.specs.Statements.{Given, Numbers, FirstGivenDecides, TableNumbered, TableInOrder, TableGivenWhen}
+use Rattle.verdicts.specs.declared.Flags.{Flags}
+use Rattle.verdicts.specs.declared.Refusal.{Refusal}
+use Rattle.verdicts.proofs.Rows.{none-done, done-none, number-decides, decides-number, givenAt, given-is}
+use Rattle.verdicts.proofs.Words.{length-given, registers-given, window-given}
+use Rattle.verdicts.proofs.Words.{undefined-given, illegal-given, stack-given, fault-given}
+
+pub first-given-decides : FirstGivenDecides
+first-given-decides rs done u zero = (
+  (λ n h. (number-decides done zero rs u n h, decides-number done zero rs u n)),
+  (done-none done zero rs u, (λ h. ap number (none-done rs done h) ∙ zero)),
+)
+
+-- one equivalence after the other
+infixl 20 _then_
+_then_ : {A B C : Type 0} → A ↔ B → B ↔ C → A ↔ C
+p then q = ((λ a. q .0 (p .0 a)), (λ c. p .1 (q .1 c)))
+
+-- ---- the table
+
+fault-number : (o : Option Element) → refusalNumber (faultOf o) ≡ 7
+fault-number none = refl
+fault-number (some x) = refl
+
+line : {n : ℕ} {c : Bool} {x : Refusal} → refusalNumber x ≡ suc n → Numbers (row (suc n) c x)
+line e = record { same = e; some = λ q. omega arith }
+
+pub table-numbered : TableNumbered
+table-numbered f m W L d room =
+    let fault = line (fault-number (firstOutside W L (elementsFor m d))) in
+    (line refl, (line refl, (line refl, (line refl, (line refl, (line refl, (fault, (line refl, tt))))))))
+
+pub table-in-order : TableInOrder
+table-in-order f m W L d room = refl
+
+-- no two lines have one number
+line-of : (f : Flags) (m : Machine) (W L : ℕ) (d : Decoded) (room n : ℕ)
+    → Given n (table f m W L d room) ↔ (givenAt n (table f m W L d room) ≡ true)
+line-of f m W L d room n = given-is n (table f m W L d room) refl
+
+pub table-given-when : TableGivenWhen
+table-given-when f m W L d room =
+    let k = length (patchOf (elementsFor m d)) in
+    let line = line-of f m W L d room in
+    record {
+      vector-length = line 1 then length-given (m .vb);
+      registers = line 2 then registers-given m;
+      window = line 3 then window-given W L;
+      undefined = line 4 then undefined-given f d;
+      illegal = line 5 then illegal-given f d;
+      stack = line 6 then stack-given f m d;
+      fault = line 7 then fault-given W L (elementsFor m d);
+      no-room = line 8 then (ltb-true room k, lt-ltb room k);
+    }

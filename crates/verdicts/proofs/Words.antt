@@ -1,0 +1,174 @@
+-- Each line of the table is given exactly when document 01 says, in its words. Assumes nothing.
+use mathlib.Core.Path.{_≡_, refl, sym, ap, subst}
+use mathlib.Core.Bool.{Bool, true, false, not, cond, _&&_, _||_}
+use mathlib.Core.List.{List, [], _∷_}
+use mathlib.Core.Logic.{_↔_, _⊎_, inl, inr, ⊎-elim}
+use mathlib.Core.Option.{some}
+use Prim.Native.Nat.{ℕ, _+_, _*_, _%_, _^_, _<_}
+use native.Mathlib.Omega.{arith}
+use borrow.Author.Tests.{eqb-true, eq-eqb}
+use lib.Dec.{eqb}
+use lib.ListN.{length}
+use Rattle.encoding.specs.declared.Decoded.{Decoded}
+use Rattle.encoding.specs.declared.Decoded.the-variants as D
+use Rattle.encoding.specs.declared.Store.the-variants.{Scatter, Strided, Quadword}
+use Rattle.encoding.proofs.Statements.{one-of}
+use Rattle.writes.specs.Elements.{Element, InWindow}
+use Rattle.window.specs.Window.{windowOk, inWindow}
+use Rattle.window.proofs.Order.{two, absurdly, not-both, both, told}
+use Rattle.window.proofs.Windows.{window-true, window-false, in-window-inv}
+use Rattle.elements.specs.Machine.{Machine}
+use Rattle.elements.specs.Elements.{elements}
+use Rattle.verdicts.specs.Verdicts.{elementsFor, lengthOk, registersOk, undefined, illegalFor, isSome, stackFor, firstOutside, found}
+use Rattle.verdicts.specs.Statements.{Listed, here, there, OneOfFive, NoClassOrOff, NotInThisMode, BasedOnSp}
+use Rattle.verdicts.specs.declared.Flags.{Flags}
+
+-- ---- tests
+
+-- a test denied, by what it says
+denied : {P : Type 0} (b : Bool) → (b ≡ true → P) → (P → b ≡ true) → (not b ≡ true) ↔ (P → ⊥)
+denied true f g = ((λ e. absurdly cc), (λ h. absurd (h (f refl))))
+denied false f g = ((λ e p. not-both false (g p) refl), (λ h. refl))
+
+off : (b : Bool) → (not b ≡ true) ↔ (b ≡ false)
+off true = ((λ e. absurdly cc), (λ e. absurdly cc))
+off false = ((λ e. refl), (λ e. refl))
+
+never : {X : Type 0} → _≡_ {A = Bool} false true → X
+never e = absurdly cc
+
+-- ---- 1 to 3
+
+pub one-of-five : (vb : ℕ) → lengthOk vb ≡ true → OneOfFive vb
+unfolding lengthOk
+one-of-five vb e =
+    ⊎-elim (λ h. inl (eqb-true vb 16 h))
+    (⊎-elim (λ h. inr (inl (eqb-true vb 32 h)))
+    (⊎-elim (λ h. inr (inr (inl (eqb-true vb 64 h))))
+    (⊎-elim (λ h. inr (inr (inr (inl (eqb-true vb 128 h))))) (λ h. inr (inr (inr (inr (eqb-true vb 256 h))))))))
+    (one-of (eqb vb 16) (eqb vb 32) (eqb vb 64) (eqb vb 128) (eqb vb 256) e)
+
+five-ok : (vb : ℕ) → OneOfFive vb → lengthOk vb ≡ true
+unfolding lengthOk
+five-ok vb (inl e) = subst (λ (n : ℕ). lengthOk n ≡ true) (sym e) refl
+five-ok vb (inr (inl e)) = subst (λ (n : ℕ). lengthOk n ≡ true) (sym e) refl
+five-ok vb (inr (inr (inl e))) = subst (λ (n : ℕ). lengthOk n ≡ true) (sym e) refl
+five-ok vb (inr (inr (inr (inl e)))) = subst (λ (n : ℕ). lengthOk n ≡ true) (sym e) refl
+five-ok vb (inr (inr (inr (inr e)))) = subst (λ (n : ℕ). lengthOk n ≡ true) (sym e) refl
+
+pub length-given : (vb : ℕ) → (not (lengthOk vb) ≡ true) ↔ (OneOfFive vb → ⊥)
+length-given vb = denied (lengthOk vb) (one-of-five vb) (five-ok vb)
+
+pub registers-given : (m : Machine)
+    → (not (registersOk m) ≡ true) ↔ ((length (m .z) ≡ 32 * m .vb) × (length (m .p) ≡ 2 * m .vb) → ⊥)
+unfolding registersOk
+registers-given m =
+    let z = eqb (length (m .z)) (32 * m .vb) in
+    let p = eqb (length (m .p)) (2 * m .vb) in
+    denied (z && p)
+    (λ e. let b = both z p e in (eqb-true (length (m .z)) (32 * m .vb) (b .0), eqb-true (length (m .p)) (2 * m .vb) (b .1)))
+    (λ q. cc (eq-eqb (length (m .z)) (32 * m .vb) (q .0), eq-eqb (length (m .p)) (2 * m .vb) (q .1)))
+
+pub window-given : (W L : ℕ) → (not (windowOk W L) ≡ true) ↔ ((65536 < L) ⊎ (2 ^ 64 < W + L))
+window-given W L = (
+  (λ e.
+      two 65536 L (λ h. inl h)
+      (λ h. two (2 ^ 64) (W + L) (λ g. inr g) (λ g. not-both (windowOk W L) (window-true W L h g) (off (windowOk W L) .0 e)))),
+  (λ o. off (windowOk W L) .1 (window-false W L (λ h. ⊎-elim (λ l. omega (arith, h .0, l)) (λ l. omega (arith, h .1, l)) o))),
+)
+
+-- ---- 4 to 6
+
+pub undefined-given : (f : Flags) (d : Decoded) → (undefined f d ≡ true) ↔ NoClassOrOff f d
+undefined-given f D.Undefined = ((λ e. tt), (λ u. refl))
+undefined-given f (D.Known (Scatter g)) = off (f .sve)
+undefined-given f (D.Known (Strided g)) = off (f .sme2)
+undefined-given f (D.Known (Quadword g)) = off (f .sve2p1)
+
+-- streaming on and FA64 off
+in-streaming : (s a : Bool) → (s && not a ≡ true) ↔ ((s ≡ true) × (a ≡ false))
+in-streaming s a = ((λ e. let b = both s (not a) e in (b .0, off a .0 (b .1))), (λ q. cc (q .0, q .1)))
+
+pub illegal-given : (f : Flags) (d : Decoded) → (illegalFor f d ≡ true) ↔ NotInThisMode f d
+illegal-given f D.Undefined = (never, (λ x. absurd x))
+illegal-given f (D.Known (Scatter g)) = in-streaming (f .streaming) (f .fa64)
+illegal-given f (D.Known (Strided g)) = off (f .streaming)
+illegal-given f (D.Known (Quadword g)) = in-streaming (f .streaming) (f .fa64)
+
+none-listed : {X : Type 0} (x : Element) (es : List Element) → es ≡ [] → Listed x es → X
+none-listed x (y ∷ es) e l = absurd (omega (arith, ap length e))
+
+-- an active element or the second SP flag
+some-or-idle : (es : List Element) (i : Bool) → (isSome es || i ≡ true) ↔ (((x : Element) × Listed x es) ⊎ (i ≡ true))
+some-or-idle [] i = ((λ e. inr e), ⊎-elim (λ x. none-listed (x .0) [] refl (x .1)) (λ e. e))
+some-or-idle (x ∷ es) i = ((λ e. inl (x, here)), (λ o. refl))
+
+-- SP is checked, where the base register is SP by a test r
+checked : {R : Type 0} (f : Flags) (sp : ℕ) (r : Bool) (es : List Element) → (r ≡ true) ↔ R
+    → (r && f .«sp_check» && not (eqb (sp % 16) 0) && (isSome es || f .«sp_idle») ≡ true)
+    ↔ (R × (f .«sp_check» ≡ true) × (sp % 16 ≡ 0 → ⊥) × (((x : Element) × Listed x es) ⊎ (f .«sp_idle» ≡ true)))
+checked f sp r es t =
+    let c = f .«sp_check» in
+    let n = not (eqb (sp % 16) 0) in
+    let o = isSome es || f .«sp_idle» in
+    let k = denied (eqb (sp % 16) 0) (eqb-true (sp % 16) 0) (eq-eqb (sp % 16) 0) in
+    let i = some-or-idle es (f .«sp_idle») in (
+      (λ e. let b = told r (c ∷ n ∷ o ∷ []) e in (t .0 (b .0), b .1 .0, k .0 (b .1 .1 .0), i .0 (b .1 .1 .1 .0))),
+      (λ q. all-true r c n o (t .1 (q .0)) (q .1) (k .1 (q .2)) (i .1 (q .3))),
+    )
+  where
+    all-true : (a b c d : Bool) → a ≡ true → b ≡ true → c ≡ true → d ≡ true → a && b && c && d ≡ true
+    all-true a b c d p q r s = cc
+
+pub stack-given : (f : Flags) (m : Machine) (d : Decoded)
+    → (stackFor f m d ≡ true)
+    ↔ (BasedOnSp d
+    × (f .«sp_check» ≡ true)
+    × (m .sp % 16 ≡ 0 → ⊥)
+    × (((x : Element) × Listed x (elementsFor m d)) ⊎ (f .«sp_idle» ≡ true)))
+stack-given f m D.Undefined = (never, (λ x. absurd (x .0)))
+stack-given f m (D.Known (Scatter g)) =
+    checked f (m .sp) (eqb (g .rn) 31) (elements m (Scatter g)) (eqb-true (g .rn) 31, eq-eqb (g .rn) 31)
+stack-given f m (D.Known (Strided g)) =
+    checked f (m .sp) (eqb (g .rn) 31) (elements m (Strided g)) (eqb-true (g .rn) 31, eq-eqb (g .rn) 31)
+stack-given f m (D.Known (Quadword g)) = checked f (m .sp) false (elements m (Quadword g)) (never, (λ x. absurd x))
+
+-- ---- 7
+
+module _ (W L : ℕ) where
+  pub found-outside : (es : List Element) → found (firstOutside W L es) ≡ true
+      → (x : Element) × Listed x es × (inWindow W L (x .address) (length (x .bytes)) ≡ false)
+  unfolding firstOutside
+  found-outside [] e = absurdly cc
+  found-outside (y ∷ es) e = go (inWindow W L (y .address) (length (y .bytes))) refl e (found-outside es)
+    where
+      go : (b : Bool) → inWindow W L (y .address) (length (y .bytes)) ≡ b → found (cond b (firstOutside W L es) (some y)) ≡ true
+          → (found (firstOutside W L es) ≡ true → (x : Element) × Listed x es × (inWindow W L (x .address) (length (x .bytes)) ≡ false))
+          → (x : Element) × Listed x (y ∷ es) × (inWindow W L (x .address) (length (x .bytes)) ≡ false)
+      go true i q f = let r = f q in (r .0, there (r .1), r .2)
+      go false i q f = (y, here, i)
+
+  pub outside-found : (es : List Element) (x : Element) → Listed x es → inWindow W L (x .address) (length (x .bytes)) ≡ false
+      → found (firstOutside W L es) ≡ true
+  unfolding firstOutside
+  outside-found (y ∷ es) x here i = ap (λ (b : Bool). found (cond b (firstOutside W L es) (some y))) i
+  outside-found (y ∷ es) x (there l) i = go (inWindow W L (y .address) (length (y .bytes))) (outside-found es x l i)
+    where
+      go : (b : Bool) → found (firstOutside W L es) ≡ true → found (cond b (firstOutside W L es) (some y)) ≡ true
+      go true e = e
+      go false e = refl
+
+  -- where none is found all lie inside
+  pub none-found : (es : List Element) → found (firstOutside W L es) ≡ false → InWindow W L es
+  unfolding firstOutside
+  none-found [] e = tt
+  none-found (y ∷ es) e = go (inWindow W L (y .address) (length (y .bytes))) refl e (none-found es)
+    where
+      go : (b : Bool) → inWindow W L (y .address) (length (y .bytes)) ≡ b → found (cond b (firstOutside W L es) (some y)) ≡ false
+          → (found (firstOutside W L es) ≡ false → InWindow W L es) → InWindow W L (y ∷ es)
+      go true i q f = let w = in-window-inv W L (y .address) (length (y .bytes)) i in (w .0, w .1, f q)
+      go false i q f = absurdly cc
+
+pub fault-given : (W L : ℕ) (es : List Element)
+    → (found (firstOutside W L es) ≡ true) ↔ ((x : Element) × Listed x es × (inWindow W L (x .address) (length (x .bytes)) ≡ false))
+fault-given W L es = (found-outside W L es, (λ o. outside-found W L es (o .0) (o .1) (o .2)))

@@ -1,0 +1,4 @@
+-- ---- what the customer must believe of bytes and of the window, from document 01
+pub mod LittleEndian
+pub mod Overwriting
+pub mod Window

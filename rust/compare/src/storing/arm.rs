@@ -1,0 +1,252 @@
+//! A store as Arm's pages and the scope paper tell it: bit by bit and byte by byte.
+
+use super::bits::{bit, elem, number, sign_extended};
+use super::classes::{
+    class_of, Class, Form, BASE, CLASSES, IMM4, INDEX, PREDICATE, R31, T, XS, ZT, ZT2, ZT3,
+};
+use super::input::Input;
+use crate::reference::Outcome;
+use crate::verdicts::{DONE, FAULT, ILLEGAL, LENGTH, REGISTERS, STACK, UNDEFINED, WINDOW};
+use crate::LONGEST;
+
+/// The vector lengths that there are, in bytes.
+pub const LENGTHS: [usize; 5] = [16, 32, 64, 128, 256];
+
+// Flags by their bits.
+pub const SVE: u32 = 0;
+pub const SME2: u32 = 1;
+pub const SVE2P1: u32 = 2;
+pub const STREAMING: u32 = 3;
+pub const FA64: u32 = 4;
+pub const SP_CHECK: u32 = 5;
+pub const SP_CHECK_NONE_ACTIVE: u32 = 6;
+
+/// An element of a store.
+#[derive(Clone)]
+pub struct Element {
+    pub active: bool,
+    pub address: u64,
+    /// The index of its first byte in the Z buffer.
+    pub index: usize,
+    /// What it writes, in bytes.
+    pub size: usize,
+    /// The bits that it writes.
+    value: u128,
+}
+
+impl Element {
+    /// The addresses of its bytes; past 2^64 there are none in any window.
+    pub fn addresses(&self) -> impl Iterator<Item = u128> {
+        let first = u128::from(self.address);
+        (0..self.size).map(move |k| first + k as u128)
+    }
+
+    pub fn byte(&self, k: usize) -> u8 {
+        (self.value >> (8 * k) & 0xFF) as u8
+    }
+}
+
+/// The elements of a store, or the verdict that keeps it from having any, whatever the flags.
+pub type Elements = Result<Vec<Element>, u64>;
+
+pub fn elements(input: &Input) -> Elements {
+    registers_lent(input)?;
+    let class = class_of(input.word).ok_or(UNDEFINED)?;
+    Ok(elements_of(input, &CLASSES[class]))
+}
+
+/// What is said of element `e` among these.
+pub fn element(elements: &Elements, e: u64) -> Outcome<5> {
+    let elements = match elements {
+        Err(verdict) => return Outcome { verdict: *verdict, numbers: [0; 5] },
+        Ok(elements) => elements,
+    };
+    let mut numbers = [0, 0, 0, 0, elements.len() as u64];
+    if let Some((_, one)) = elements.iter().enumerate().find(|(number, _)| *number as u64 == e) {
+        let first = [u64::from(one.active), one.address, one.index as u64, one.size as u64];
+        numbers[..4].copy_from_slice(&first);
+    }
+    Outcome { verdict: DONE, numbers }
+}
+
+fn registers_lent(input: &Input) -> Result<(), u64> {
+    if !LENGTHS.contains(&input.vb) {
+        return Err(LENGTH);
+    }
+    match (input.z.len(), input.p.len()) == (32 * input.vb, 2 * input.vb) {
+        true => Ok(()),
+        false => Err(REGISTERS),
+    }
+}
+
+/// The elements of a store that none of the refusals 1 to 7 is due for.
+pub fn judged<'a>(input: &Input, elements: &'a Elements) -> Result<&'a [Element], Outcome<6>> {
+    let class = allowed(input).map_err(refused)?;
+    let elements = elements.as_deref().map_err(|&verdict| refused(verdict))?;
+    if stack_is_refused(input, class, elements) {
+        return Err(refused(STACK));
+    }
+    match fault(input, elements) {
+        None => Ok(elements),
+        Some(fault) => Err(fault),
+    }
+}
+
+/// A refusal that returns zeros.
+pub fn refused(verdict: u64) -> Outcome<6> {
+    Outcome { verdict, numbers: [0; 6] }
+}
+
+/// The class of a store whose elements may be looked at.
+pub fn allowed(input: &Input) -> Result<&'static Class, u64> {
+    registers_lent(input)?;
+    if input.memory.len() > LONGEST || input.end() > 1 << 64 {
+        return Err(WINDOW);
+    }
+    let class = &CLASSES[class_of(input.word).ok_or(UNDEFINED)?];
+    let (feature, legal) = match class.form {
+        Form::Scatter { .. } => (SVE, non_streaming(input)),
+        Form::Strided { .. } => (SME2, flag(input, STREAMING)),
+        Form::Quadword => (SVE2P1, non_streaming(input)),
+    };
+    match (flag(input, feature), legal) {
+        (false, _) => Err(UNDEFINED),
+        (true, false) => Err(ILLEGAL),
+        (true, true) => Ok(class),
+    }
+}
+
+fn flag(input: &Input, bit: u32) -> bool {
+    input.flags >> bit & 1 == 1
+}
+
+/// `CheckNonStreamingSVEEnabled`
+fn non_streaming(input: &Input) -> bool {
+    !flag(input, STREAMING) || flag(input, FA64)
+}
+
+/// `CheckSPAlignment`, where it is called at all.
+fn stack_is_refused(input: &Input, class: &Class, elements: &[Element]) -> bool {
+    let from_sp = class.form != Form::Quadword && BASE.of(input.word) == R31;
+    let active = || elements.iter().any(|element| element.active);
+    let checked = flag(input, SP_CHECK) && (flag(input, SP_CHECK_NONE_ACTIVE) || active());
+    from_sp && checked && input.sp % 16 != 0
+}
+
+/// The refusal for the lowest active element with a byte outside the window.
+pub fn fault(input: &Input, elements: &[Element]) -> Option<Outcome<6>> {
+    let window = u128::from(input.base)..input.end();
+    let outside = |element: &Element| element.addresses().any(|byte| !window.contains(&byte));
+    let e = elements.iter().position(|element| element.active && outside(element))?;
+    let numbers = [e as u64, elements[e].address, 0, 0, 0, 0];
+    Some(Outcome { verdict: FAULT, numbers })
+}
+
+/// Writes the active elements to the window's memory, in ascending number.
+pub fn write(base: u64, elements: &[Element], memory: &mut [u8]) {
+    for element in elements.iter().filter(|element| element.active) {
+        for (k, address) in element.addresses().enumerate() {
+            memory[(address - u128::from(base)) as usize] = element.byte(k);
+        }
+    }
+}
+
+fn elements_of(input: &Input, class: &Class) -> Vec<Element> {
+    match class.form {
+        Form::Scatter { offset, scale } => scatter(input, class, offset, scale),
+        Form::Strided { registers, immediate } => strided(input, class, registers, immediate),
+        Form::Quadword => quadword(input, class),
+    }
+}
+
+fn z(input: &Input, register: usize) -> &[u8] {
+    &input.z[register * input.vb..][..input.vb]
+}
+
+fn p(input: &Input, register: usize) -> &[u8] {
+    &input.p[register * input.vb / 8..][..input.vb / 8]
+}
+
+/// `if n == 31 then SP[] else X[n, 64]`
+pub fn base(input: &Input) -> u64 {
+    *input.x.get(BASE.of(input.word)).unwrap_or(&input.sp)
+}
+
+/// `X[m, 64]`, which is zero for 31.
+fn index(input: &Input) -> u64 {
+    *input.x.get(INDEX.of(input.word)).unwrap_or(&0)
+}
+
+/// Element `e` of a register, with the part of it that goes to memory.
+fn of_register(
+    input: &Input,
+    class: &Class,
+    register: usize,
+    e: usize,
+    (active, address): (bool, u64),
+) -> Element {
+    let index = register * input.vb + e * class.esize / 8;
+    let value = elem(z(input, register), e, class.esize, class.msize);
+    Element { active, address, index, size: class.msize / 8, value }
+}
+
+fn scatter(input: &Input, class: &Class, offset_size: usize, scale: u32) -> Vec<Element> {
+    let (word, esize) = (input.word, class.esize);
+    let mask = p(input, PREDICATE.of(word));
+    let offsets = z(input, INDEX.of(word));
+    let signed = offset_size == 32 && XS.of(word) == 1;
+    let of = |e| {
+        let cut = elem(offsets, e, esize, offset_size) as u64;
+        let offset = if signed { sign_extended(cut, offset_size) } else { cut };
+        let address = base(input).wrapping_add(offset.wrapping_mul(1 << scale));
+        of_register(input, class, ZT.of(word), e, (bit(mask, e * esize / 8), address))
+    };
+    (0..class.elements(input.vb)).map(of).collect()
+}
+
+fn quadword(input: &Input, class: &Class) -> Vec<Element> {
+    let mask = p(input, PREDICATE.of(input.word));
+    let bases = z(input, BASE.of(input.word));
+    let of = |e| {
+        let address = (elem(bases, 2 * e, 64, 64) as u64).wrapping_add(index(input));
+        of_register(input, class, ZT.of(input.word), e, (bit(mask, e * 16), address))
+    };
+    (0..class.elements(input.vb)).map(of).collect()
+}
+
+fn strided(input: &Input, class: &Class, registers: usize, immediate: bool) -> Vec<Element> {
+    let (word, bytes) = (input.word, class.esize / 8);
+    let mask = counter_to_predicate(p(input, 8 + PREDICATE.of(word)), input.vb);
+    let (first, stride) = match registers {
+        2 => (ZT3.of(word), 8),
+        _ => (ZT2.of(word), 4),
+    };
+    let displacement = match immediate {
+        true => sign_extended(IMM4.of(word) as u64, 4).wrapping_mul((registers * input.vb) as u64),
+        false => index(input).wrapping_mul(bytes as u64),
+    };
+    let mut address = base(input).wrapping_add(displacement);
+    let mut elements = Vec::new();
+    for r in 0..registers {
+        let register = T.of(word) * 16 + first + r * stride;
+        for e in 0..input.vb / bytes {
+            let active = mask[(r * (input.vb / bytes) + e) * bytes];
+            elements.push(of_register(input, class, register, e, (active, address)));
+            address = address.wrapping_add(bytes as u64);
+        }
+    }
+    elements
+}
+
+/// `CounterToPredicate`: the mask over four registers, a bit for each of their bytes.
+fn counter_to_predicate(counter: &[u8], vb: usize) -> Vec<bool> {
+    let mut mask = vec![false; 4 * vb];
+    if let Some(lowest) = (0..4).find(|&number| bit(counter, number)) {
+        let count = number((lowest + 1..15).map(|above| bit(counter, above))) as usize;
+        let inverted = bit(counter, 15);
+        for (k, first) in mask.iter_mut().step_by(1 << lowest).enumerate() {
+            *first = if inverted { k >= count } else { k < count };
+        }
+    }
+    mask
+}

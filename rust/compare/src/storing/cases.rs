@@ -1,0 +1,298 @@
+//! The scope paper's cases, asked of the independent model and of the library.
+
+use super::arm::*;
+use super::input::Input;
+use super::wrong::right;
+use super::Store;
+use crate::reference::Outcome;
+use crate::verdicts::*;
+use crate::{GARBAGE, LONGEST};
+use starshackle::Window;
+
+const EXAMPLE: [u8; 31] = [
+    0x50, 0x52, 0x00, 0x10, 0x00, 0x00, 0x00, 0x00, 0x00, 0x00, 0x02, 0x00, 0xA1, 0xA3, //
+    0x50, 0x52, 0x05, 0x10, 0x00, 0x00, 0x00, 0x00, 0x00, 0x00, 0x01, 0x00, 0xA4, //
+    0x50, 0x45, 0x02, 0x00,
+];
+
+/// What a call answers and leaves.
+#[derive(Clone, Debug, PartialEq)]
+struct Left {
+    verdict: u64,
+    numbers: [u64; 6],
+    memory: Vec<u8>,
+    buffer: Vec<u8>,
+}
+
+/// What both implementations answer and leave, in a buffer of this length.
+fn left(input: &Input, room: usize) -> Left {
+    let ask = |store: &Store| {
+        let (mut memory, mut buffer) = (input.memory.clone(), vec![0x77; room]);
+        let (mut numbers, machine) = ([GARBAGE; 6], input.machine());
+        let window = Window { base: input.base, memory: &mut memory };
+        let verdict = store(&machine, window, input.word, &mut buffer, &mut numbers);
+        Left { verdict, numbers, memory, buffer }
+    };
+    let (right, model) = (ask(&*right()), ask(&starshackle::store_numbers));
+    assert_eq!(right, model);
+    model
+}
+
+/// The answer in a buffer with room for every patch, of a store that leaves both buffers as they came
+/// where it is refused.
+fn answer(input: &Input) -> Outcome<6> {
+    let Left { verdict, numbers, memory, buffer } = left(input, 1_040);
+    assert!(verdict == DONE || memory == input.memory && buffer == [0x77; 1_040]);
+    Outcome { verdict, numbers }
+}
+
+fn done(elements: u64, bytes: u64, length: u64) -> Outcome<6> {
+    Outcome { verdict: DONE, numbers: [0, 0, elements, bytes, length, 0] }
+}
+
+fn faulting(element: u64, address: u64) -> Outcome<6> {
+    Outcome { verdict: FAULT, numbers: [element, address, 0, 0, 0, 0] }
+}
+
+/// What both implementations say of an element: whether it is active, its address, its index in the Z
+/// buffer, its bytes, and how many elements there are.
+fn inspected(input: &Input, e: u64) -> (u64, [u64; 5]) {
+    let Outcome { verdict, numbers } = element(&elements(input), e);
+    let mut answer = [GARBAGE; 5];
+    let model = starshackle::element_numbers(&input.machine(), input.word, e, &mut answer);
+    assert_eq!((verdict, numbers), (model, answer));
+    (model, answer)
+}
+
+fn address(input: &Input, e: u64) -> u64 {
+    inspected(input, e).1[1]
+}
+
+/// The numbers of the active elements.
+fn active(input: &Input) -> Vec<u64> {
+    (0..1000).filter(|&e| inspected(input, e).1[0] == 1).collect()
+}
+
+/// A machine with VB 16, all features, X0 = 1000h, every predicate and other register 0, and 256
+/// bytes of memory around 1000h.
+fn input(word: u32) -> Input {
+    let mut x = [0; 31];
+    x[0] = 0x1000;
+    let flags = 1 << SVE | 1 << SME2 | 1 << SVE2P1;
+    let (z, p) = (vec![0; 512], vec![0; 32]);
+    Input { vb: 16, flags, x, sp: 0, z, p, base: 0xF80, memory: vec![0; 256], word }
+}
+
+/// The same in streaming mode, with a counter in P8.
+fn strided(word: u32, counter: u16) -> Input {
+    let mut input = input(word);
+    input.flags |= 1 << STREAMING;
+    input.p[16..18].copy_from_slice(&counter.to_le_bytes());
+    input
+}
+
+/// A scatter from Z1 with offsets in Z2, element 0 active.
+fn scatter(word: u32, offset: u64) -> Input {
+    let mut input = input(word | 2 << 16 | 1);
+    input.p[0] = 1;
+    input.z[16..24].fill(0xEE);
+    input.z[32..40].copy_from_slice(&offset.to_le_bytes());
+    input
+}
+
+/// Class 6 from Z1 with the offsets in Z2, all active, over a window at 1000h.
+fn bytes_at(vb: usize, offsets: &[u32], bytes: &[u8]) -> Input {
+    let (z, p) = (vec![0; 32 * vb], vec![0xFF; 2 * vb]);
+    let mut input = Input { vb, z, p, base: 0x1000, ..input(0xE442_8001) };
+    for (e, (offset, byte)) in offsets.iter().zip(bytes).enumerate() {
+        input.z[vb + 4 * e] = *byte;
+        input.z[2 * vb + 4 * e..][..4].copy_from_slice(&offset.to_le_bytes());
+    }
+    input
+}
+
+/// The store over a window with this many bytes 77h.
+fn over(length: usize, input: &Input) -> Input {
+    Input { memory: vec![0x77; length], ..input.clone() }
+}
+
+#[test]
+fn words() {
+    assert_eq!(address(&strided(0xA16F_6000, 0), 0), 0xFE0);
+    assert_eq!(address(&strided(0xA168_E000, 0), 0), 0x1000 - 32 * 16);
+    let indices = [0, 1, 2, 3].map(|e| inspected(&input(0xA120_6010), e).1[2]);
+    assert_eq!(indices, [16 * 16, 16 * 16 + 8, 24 * 16, 24 * 16 + 8]);
+    for word in [0xA120_E004, 0xA120_6008, 0xE420_8000] {
+        assert_eq!(answer(&strided(word, 0x8008)), refused(UNDEFINED));
+        assert_eq!(inspected(&input(word), 0), (UNDEFINED, [0; 5]));
+    }
+}
+
+#[test]
+fn addresses() {
+    let offset = 0x1234_5678_FFFF_FFF8;
+    assert_eq!(address(&scatter(0xE580_C000, offset), 0), 0xFF8);
+    assert_eq!(address(&scatter(0xE580_8000, offset), 0), 0x1_0000_0FF8);
+    assert_eq!(address(&scatter(0xE5A0_8000, offset), 0), 0x8_0000_0FC0);
+    assert_eq!(address(&scatter(0xE5A0_A000, 0x2000_0000_0000_0001), 0), 0x1008);
+}
+
+#[test]
+fn counters_over_two_registers() {
+    let cases: [(u16, &[u64]); 6] = [
+        (0x0018, &[0]),
+        (0x8038, &[3]),
+        (0x8000, &[]),
+        (0x0013, &[0, 1]),
+        (0x8008, &[0, 1, 2, 3]),
+        (0x8058, &[]),
+    ];
+    for (counter, elements) in cases {
+        assert_eq!(active(&strided(0xA120_6000, counter)), elements, "{counter:04X}");
+    }
+}
+
+#[test]
+fn the_whole_example() {
+    let first = bytes_at(16, &[0, 1, 1, 5], &[0xA1, 0xA2, 0xA3, 0xA4]);
+    let second = bytes_at(16, &[1, 0, 5, 5], &[0xA3, 0xA1, 0x00, 0xA4]);
+    for input in [first, second] {
+        let input = over(8, &input);
+        let memory = vec![0xA1, 0xA3, 0x77, 0x77, 0x77, 0xA4, 0x77, 0x77];
+        let Outcome { verdict, numbers } = done(4, 4, 31);
+        let exact = Left { verdict, numbers, memory, buffer: EXAMPLE.to_vec() };
+        assert_eq!(left(&input, 31), exact);
+        let buffer = [&EXAMPLE[..], &[0x77; 9]].concat();
+        assert_eq!(left(&input, 40), Left { buffer, ..exact });
+        for room in [30, 0] {
+            let (memory, buffer) = (input.memory.clone(), vec![0x77; room]);
+            let refused = Left { verdict: NO_ROOM, numbers: [0; 6], memory, buffer };
+            assert_eq!(left(&input, room), refused);
+        }
+        assert_eq!(answer(&over(LONGEST, &input)), done(4, 4, 31));
+        assert_eq!(answer(&over(LONGEST + 1, &input)), refused(WINDOW));
+    }
+}
+
+#[test]
+fn a_fault_has_written_nothing() {
+    let input = bytes_at(16, &[0, 1, 8, 9], &[1; 4]);
+    assert_eq!(answer(&over(8, &input)), faulting(2, 0x1008));
+}
+
+#[test]
+fn nothing_active_and_no_memory() {
+    let none = over(0, &input(0xE580_A000));
+    assert_eq!(answer(&none), done(0, 0, 4));
+    assert_eq!(left(&none, 4).buffer, [0x50, 0x45, 0, 0]);
+    assert_eq!(left(&none, 3).verdict, NO_ROOM);
+}
+
+#[test]
+fn the_largest_patch_of_a_store() {
+    let (z, p) = ((0..32 * 256).map(|index| (index / 7) as u8).collect(), vec![0xFF; 2 * 256]);
+    let mut four = Input { vb: 256, z, p, base: 0x1000, ..strided(0xA13F_E000, 0) };
+    four.p[256..258].copy_from_slice(&0x8008u16.to_le_bytes());
+    let registers = [0, 4, 8, 12].map(|register| &four.z[register * 256..][..256]).concat();
+    let head = [0x50, 0x52, 0x00, 0x10, 0, 0, 0, 0, 0, 0, 0x00, 0x04];
+    let patch = [&head[..], &registers, &[0x50, 0x45, 1, 0]].concat();
+    assert_eq!(patch.len(), 1_040);
+    let whole = over(1_024, &four);
+    assert_eq!(answer(&whole), done(128, 1_024, 1_040));
+    assert_eq!((left(&whole, 1_040).memory, left(&whole, 1_040).buffer), (registers, patch));
+    assert_eq!(left(&whole, 1_039).verdict, NO_ROOM);
+    assert_eq!(answer(&over(1_023, &four)), faulting(127, 0x13F8));
+}
+
+#[test]
+fn most_runs() {
+    let offsets: Vec<u32> = (0..64).map(|e| (e * 27 + 5) % 64 * 2).collect();
+    let bytes: Vec<u8> = offsets.iter().map(|&offset| offset as u8).collect();
+    let input = over(127, &bytes_at(256, &offsets, &bytes));
+    assert_eq!(answer(&input), done(64, 64, 836));
+    let patch = left(&input, 836).buffer;
+    for (number, run) in patch[..832].chunks(13).enumerate() {
+        let offset = 2 * number as u8;
+        assert_eq!(run, [0x50, 0x52, offset, 0x10, 0, 0, 0, 0, 0, 0, 1, 0, offset]);
+    }
+    assert_eq!(patch[832..], [0x50, 0x45, 64, 0]);
+}
+
+#[test]
+fn the_ends_of_windows() {
+    let at = |offset| over(16, &Input { base: 0x1000, ..scatter(0xE580_A000, offset) });
+    assert_eq!(answer(&at(8)), done(1, 8, 24));
+    assert_eq!(answer(&at(9)), faulting(0, 0x1009));
+    let last = 0x10_0000 + LONGEST as u64 - 1;
+    let around = bytes_at(16, &[LONGEST as u32 - 1, 0, 7, 7], &[1, 2, 3, 3]);
+    let mut around = over(LONGEST, &Input { base: 0x10_0000, ..around });
+    around.x[0] = around.base;
+    assert_eq!(answer(&around), done(4, 4, 43));
+    let patch = left(&around, 43).buffer;
+    assert_eq!(patch[..13], [0x50, 0x52, 0, 0, 0x10, 0, 0, 0, 0, 0, 1, 0, 2]);
+    assert_eq!(patch[28..36], last.to_le_bytes());
+}
+
+#[test]
+fn the_top_of_the_address_space() {
+    let mut top = scatter(0xE580_A000, (-0x1008i64) as u64);
+    (top.base, top.memory) = (0xFFFF_FFFF_FFFF_FFF0, vec![0; 16]);
+    assert_eq!(answer(&top), done(1, 8, 24));
+    let head = [0x50, 0x52, 0xF8, 255, 255, 255, 255, 255, 255, 255, 8, 0];
+    assert_eq!(left(&top, 24).buffer[..12], head);
+    top.x[0] += 1;
+    assert_eq!(answer(&top), faulting(0, 0xFFFF_FFFF_FFFF_FFF9));
+    top.memory.push(0);
+    assert_eq!(answer(&top), refused(WINDOW));
+}
+
+#[test]
+fn only_the_stores_own_elements_let_sp_be_checked() {
+    let from_sp = 31 << 5;
+    let mut none = strided(0xA120_6000 | from_sp, 0x8058);
+    (none.sp, none.flags) = (0x1008, none.flags | 1 << SP_CHECK);
+    assert_eq!(answer(&none), done(0, 0, 4));
+    let both = Input { flags: none.flags | 1 << SP_CHECK_NONE_ACTIVE, ..none.clone() };
+    assert_eq!(answer(&both), refused(STACK));
+    let second_alone = Input { flags: both.flags & !(1 << SP_CHECK), ..both };
+    assert_eq!(answer(&second_alone), done(0, 0, 4));
+    let four = Input { word: 0xA120_E000 | from_sp, ..none };
+    assert_eq!(answer(&four), refused(STACK));
+}
+
+#[test]
+fn register_31() {
+    let (rm, rn) = (31 << 16, 31 << 5);
+    let mut both = strided(0xA120_6000 | rm | rn, 0x8008);
+    both.sp = 0x1010;
+    assert_eq!(address(&both, 0), 0x1010);
+    let mut quadword = input(0xE420_2000 | rm | rn);
+    quadword.flags |= 1 << SP_CHECK | 1 << SP_CHECK_NONE_ACTIVE;
+    (quadword.p[0], quadword.sp) = (1, 0x1001);
+    quadword.z[31 * 16..][..8].copy_from_slice(&0x1002u64.to_le_bytes());
+    assert_eq!(address(&quadword, 0), 0x1002);
+    assert_eq!(answer(&quadword), done(1, 16, 32));
+}
+
+#[test]
+fn refusals_in_their_order() {
+    let verdict = |input: &Input| left(input, 0).verdict;
+    let mut several = over(LONGEST, &input(0));
+    assert_eq!(verdict(&several), UNDEFINED);
+    several.memory.push(0);
+    assert_eq!(verdict(&several), WINDOW);
+    several.p.pop();
+    assert_eq!(verdict(&several), REGISTERS);
+    several.vb = 48;
+    assert_eq!(verdict(&several), LENGTH);
+}
+
+#[test]
+fn undefined_before_illegal_and_fault_before_no_room() {
+    let mut store = input(0xA120_6000);
+    assert_eq!(answer(&store), refused(ILLEGAL));
+    store.flags = 0;
+    assert_eq!(answer(&store), refused(UNDEFINED));
+    let outside = over(16, &Input { base: 0x1000, ..scatter(0xE580_A000, 9) });
+    assert_eq!(left(&outside, 0).verdict, FAULT);
+}

@@ -1,0 +1,247 @@
+//! What the random stores have to hit.
+
+use super::arm::{self, Element, SP_CHECK, STREAMING};
+use super::classes::{class_of, Form, BASE, CLASSES, PREDICATE, R31};
+use super::effect::Effect;
+use super::subject::Subject;
+use crate::verdicts::{DONE, FAULT, ILLEGAL, STACK, UNDEFINED, WINDOW};
+use crate::LONGEST;
+
+/// Something to count by: each of the numbers has to be hit.
+pub struct Group {
+    pub name: &'static str,
+    pub numbers: &'static [u64],
+    pub of: fn(&Subject) -> Option<u64>,
+}
+
+const CLASS: &[u64] = &[1, 2, 3, 4, 5, 6, 7, 8, 9, 10, 11, 12];
+const SCATTER: &[u64] = &[1, 2, 3, 4, 5, 6, 7, 12];
+/// Classes whose addresses need not be multiples of anything.
+const UNSCALED: &[u64] = &[2, 4, 5, 6, 7, 12];
+const FROM_SP: &[u64] = &[1, 2, 3, 4, 5, 6, 7, 8, 9, 10, 11];
+const VERDICT: &[u64] = &[0, 1, 2, 3, 4, 5, 6, 7];
+const SIZE: &[u64] = &[0, 8, 16, 32, 64];
+const BITS: &[u64] = &[0, 1, 2, 3];
+const RUNS: &[u64] = &[0, 1, 2, 3, 4, 7, 8, 15, 16, 31, 32, 33, 63, 64];
+const PAYLOAD: &[u64] = &[0, 1, 2, 7, 8, 9, 16, 64, 256, 512, 1016, 1024];
+const ONCE: &[u64] = &[1];
+
+pub const GROUPS: &[Group] = &[
+    group("class, done", CLASS, |s| s.class_with(DONE)),
+    group("class, undefined", CLASS, |s| s.class_with(UNDEFINED)),
+    group("class, illegal", CLASS, |s| s.class_with(ILLEGAL)),
+    group("class, stack", FROM_SP, |s| s.class_with(STACK)),
+    group("class, fault", CLASS, |s| s.class_with(FAULT)),
+    group("verdict with room for each patch", VERDICT, |s| Some(s.verdict())),
+    group("VB 16, class, done", CLASS, |s| s.class_where(|s, _| s.input.vb == 16)),
+    group("VB 32, class, done", CLASS, |s| s.class_where(|s, _| s.input.vb == 32)),
+    group("VB 64, class, done", CLASS, |s| s.class_where(|s, _| s.input.vb == 64)),
+    group("VB 128, class, done", CLASS, |s| s.class_where(|s, _| s.input.vb == 128)),
+    group("VB 256, class, done", CLASS, |s| s.class_where(|s, _| s.input.vb == 256)),
+    group("counter's size, bit 15 clear", SIZE, |s| s.counter(false)),
+    group("counter's size, bit 15 set", SIZE, |s| s.counter(true)),
+    group("streaming and FA64 as bits, one register", BITS, |s| s.streaming(false)),
+    group("streaming and FA64 as bits, strided", BITS, |s| s.streaming(true)),
+    group("SP checks as bits, SP unaligned", BITS, |s| s.stack(true)),
+    group("SP checks as bits, SP unaligned, none active", BITS, |s| s.stack(false)),
+    group("window at 0, done", ONCE, |s| s.once(|s, _| s.input.base == 0)),
+    group("window up to 2^64, done", ONCE, |s| s.once(|s, _| s.input.end() == 1 << 64)),
+    group("window's length, done", &[0, LONGEST as u64], |s| s.done(|_| s.length())),
+    group("window over 2^64 alone", ONCE, |s| {
+        once(s.verdict() == WINDOW && s.length() <= LONGEST as u64)
+    }),
+    group("window of 65,537 bytes, not over 2^64", ONCE, |s| {
+        once(s.verdict() == WINDOW && s.length() == LONGEST as u64 + 1 && s.input.end() <= 1 << 64)
+    }),
+    group("window too long, bits of its length", &[17, 18], |s| {
+        let bits = 64 - s.length().leading_zeros();
+        (s.verdict() == WINDOW && s.length() > LONGEST as u64).then_some(bits.into())
+    }),
+    group("element passes 2^64, fault", ONCE, |s| once(s.passes_the_top())),
+    group("fault at the first, a later, the last element", &[0, 1, 2], |s| s.faulting()),
+    group("address below its base, done", ONCE, |s| s.once(|s, _| s.is_below_base())),
+    group("runs", RUNS, |s| s.done(|effect| effect.runs as u64)),
+    group("bytes in runs", PAYLOAD, |s| s.done(|effect| effect.payload() as u64)),
+    group("patch's length", &[4, 17, 24, 32, 836, 1040], |s| {
+        s.done(|effect| effect.patch.len() as u64)
+    }),
+    group("elements ascend, descend, do neither", &[1, 2, 3], |s| {
+        s.right.as_ref().ok().and_then(|_| order(s))
+    }),
+    group("class, elements at the same address", SCATTER, |s| {
+        s.class_where(|s, _| neighbours(s).any(|(step, _)| step == 0))
+    }),
+    group("class, elements overlap in part", &[2, 4, 12], |s| {
+        s.class_where(|s, _| neighbours(s).any(|(step, size)| 0 < step && step < size))
+    }),
+    group("class, elements touch", SCATTER, |s| {
+        s.class_where(|s, _| neighbours(s).any(|(step, size)| step == size))
+    }),
+    group("class, one unwritten byte between", UNSCALED, |s| {
+        s.class_where(|s, _| neighbours(s).any(|(step, size)| step == size + 1))
+    }),
+    group("class, contiguous, ascending", CLASS, |s| {
+        s.class_where(|s, effect| is_contiguous(s, effect) && order(s) == Some(1))
+    }),
+    group("class, contiguous, not ascending", SCATTER, |s| {
+        s.class_where(|s, effect| is_contiguous(s, effect) && matches!(order(s), Some(2 | 3)))
+    }),
+    group("class, 3 elements or more at one address", SCATTER, |s| {
+        s.class_where(|s, effect| effect.active > 2 && neighbours(s).all(|(step, _)| step == 0))
+    }),
+    group("class, the window's end, then its start", SCATTER, |s| {
+        s.class_where(|s, _| s.goes_round())
+    }),
+    group("first run at 0", ONCE, |s| s.once(|s, _| s.active().any(|e| e.address == 0))),
+    group("last run up to 2^64", ONCE, |s| s.once(|s, _| s.active().any(|e| end(e) == 1 << 64))),
+    group("run at the window's first byte", ONCE, |s| {
+        s.once(|s, _| s.active().any(|e| e.address == s.input.base))
+    }),
+    group("run at the window's last byte", ONCE, |s| {
+        s.once(|s, _| s.active().any(|e| end(e) == s.input.end()))
+    }),
+];
+
+const fn group(
+    name: &'static str,
+    numbers: &'static [u64],
+    of: fn(&Subject) -> Option<u64>,
+) -> Group {
+    Group { name, numbers, of }
+}
+
+/// The number of a group that has only one.
+fn once(hit: bool) -> Option<u64> {
+    hit.then_some(1)
+}
+
+fn end(element: &Element) -> u128 {
+    u128::from(element.address) + element.size as u128
+}
+
+impl Subject {
+    fn verdict(&self) -> u64 {
+        self.right.as_ref().map_or_else(|refusal| refusal.verdict, |_| DONE)
+    }
+
+    /// How many bytes the window has.
+    fn length(&self) -> u64 {
+        self.input.memory.len() as u64
+    }
+
+    fn class(&self) -> Option<u64> {
+        class_of(self.input.word).map(|number| number as u64 + 1)
+    }
+
+    fn form(&self) -> Option<Form> {
+        class_of(self.input.word).map(|number| CLASSES[number].form)
+    }
+
+    fn class_with(&self, verdict: u64) -> Option<u64> {
+        self.class().filter(|_| self.verdict() == verdict)
+    }
+
+    /// The class of a done store of which something holds.
+    fn class_where(&self, hit: impl FnOnce(&Subject, &Effect) -> bool) -> Option<u64> {
+        self.once(hit).and_then(|_| self.class())
+    }
+
+    fn once(&self, hit: impl FnOnce(&Subject, &Effect) -> bool) -> Option<u64> {
+        self.right.as_ref().ok().and_then(|effect| once(hit(self, effect)))
+    }
+
+    fn done(&self, number: impl FnOnce(&Effect) -> u64) -> Option<u64> {
+        self.right.as_ref().ok().map(number)
+    }
+
+    /// Whether the element that faults has bytes on both sides of 2^64.
+    fn passes_the_top(&self) -> bool {
+        let fault = self.right.as_ref().err().filter(|outcome| outcome.verdict == FAULT);
+        let element = fault.map(|outcome| &self.elements()[outcome.numbers[0] as usize]);
+        element.map_or(false, |element| end(element) > 1 << 64)
+    }
+
+    /// Whether the first, a later or the last element faults: 0, 1 or 2.
+    fn faulting(&self) -> Option<u64> {
+        let fault = self.right.as_ref().err().filter(|outcome| outcome.verdict == FAULT)?;
+        let element = fault.numbers[0];
+        Some(match element {
+            0 => 0,
+            _ if element + 1 == self.elements().len() as u64 => 2,
+            _ => 1,
+        })
+    }
+
+    /// Whether an active element lies below its base, so that the sum went round or down.
+    fn is_below_base(&self) -> bool {
+        let base = arm::base(&self.input);
+        self.form() != Some(Form::Quadword) && self.active().any(|element| element.address < base)
+    }
+
+    /// Whether an active element ends where the longest window does, and the next active one starts
+    /// where that starts.
+    pub fn goes_round(&self) -> bool {
+        let ends = |element: &Element| end(element) == self.input.end();
+        let mut pairs = self.active().zip(self.active().skip(1));
+        self.length() == LONGEST as u64
+            && pairs.any(|(one, next)| ends(one) && next.address == self.input.base)
+    }
+
+    /// Two flags, as bits, of a defined store that is or isn't strided.
+    fn streaming(&self, strided: bool) -> Option<u64> {
+        let defined = self.verdict() == DONE || self.verdict() >= ILLEGAL;
+        (defined && self.is_strided() == strided).then_some(self.input.flags >> STREAMING & 3)
+    }
+
+    /// Two flags, as bits, of a legal store from an unaligned SP, with or without active elements.
+    fn stack(&self, active: bool) -> Option<u64> {
+        let legal = self.verdict() == DONE || self.verdict() >= STACK;
+        let from_sp = BASE.of(self.input.word) == R31 && self.form() != Some(Form::Quadword);
+        let any = self.active().next().is_some();
+        let met = legal && from_sp && self.input.sp % 16 != 0 && any == active;
+        met.then_some(self.input.flags >> SP_CHECK & 3)
+    }
+
+    pub fn is_strided(&self) -> bool {
+        matches!(self.form(), Some(Form::Strided { .. }))
+    }
+
+    /// The element size of the counter of a strided store whose elements were looked at.
+    fn counter(&self, inverted: bool) -> Option<u64> {
+        let looked = self.is_strided() && matches!(self.verdict(), DONE | FAULT);
+        let from = looked.then(|| (8 + PREDICATE.of(self.input.word)) * self.input.vb / 8)?;
+        let (low, high) = (self.input.p[from], self.input.p[from + 1]);
+        let size = if low & 15 == 0 { 0 } else { 8 << low.trailing_zeros() };
+        (high >> 7 == u8::from(inverted)).then_some(size)
+    }
+}
+
+/// Whether at least three active elements ascend, descend or do neither: 1, 2 or 3.
+fn order(subject: &Subject) -> Option<u64> {
+    let addresses: Vec<u64> = subject.active().map(|element| element.address).collect();
+    let all = |sorted: fn(u64, u64) -> bool| addresses.windows(2).all(|two| sorted(two[0], two[1]));
+    (addresses.len() > 2).then(|| match (all(|a, b| a < b), all(|a, b| a > b)) {
+        (true, _) => 1,
+        (_, true) => 2,
+        _ => 3,
+    })
+}
+
+/// The distances of active elements from the ones before them by address, with their size.
+fn neighbours(subject: &Subject) -> impl Iterator<Item = (u64, u64)> {
+    let size = subject.active().next().map_or(0, |element| element.size as u64);
+    let mut addresses: Vec<u64> = subject.active().map(|element| element.address).collect();
+    addresses.sort_unstable();
+    let steps: Vec<u64> = addresses.windows(2).map(|two| two[1] - two[0]).collect();
+    steps.into_iter().map(move |step| (step, size))
+}
+
+/// Whether two active elements or more make one run without overlap.
+fn is_contiguous(subject: &Subject, effect: &Effect) -> bool {
+    effect.active > 1 && neighbours(subject).all(|(step, size)| step == size)
+}
+
+/// Whether active elements have bytes in common.
+pub fn overlaps(subject: &Subject) -> bool {
+    neighbours(subject).any(|(step, size)| step < size)
+}

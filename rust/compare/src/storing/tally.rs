@@ -1,0 +1,79 @@
+//! How often the random stores, buffers and pairs hit what they have to hit.
+
+use super::groups::{overlaps, Group, GROUPS};
+use super::subject::Subject;
+use crate::counts::Counts;
+use crate::report::Report;
+use crate::verdicts::NO_ROOM;
+use std::cmp::Ordering;
+
+/// Rows that follow the groups'.
+const CALLS: usize = GROUPS.len();
+const ROOMS: usize = CALLS + 1;
+const APPLIED: usize = ROOMS + 1;
+const PAIRS: usize = APPLIED + 1;
+const OVERLAPPING: usize = PAIRS + 1;
+const ROWS: [(&str, &[u64]); 5] = [
+    ("verdict of a call", &[0, 1, 2, 3, 4, 5, 6, 7, NO_ROOM]),
+    ("buffer short by one, exact, longer", &[1, 2, 3]),
+    ("patch of one filling applied to another", &[1]),
+    ("permuted form has another patch, the same", &[0, 1]),
+    ("the same where elements overlap", &[0, 1]),
+];
+
+pub struct Tally {
+    stores: u64,
+    counts: Counts,
+}
+
+impl Tally {
+    pub fn new() -> Tally {
+        let groups = GROUPS.iter().map(|Group { name, numbers, .. }| (*name, *numbers));
+        Tally { stores: 0, counts: Counts::new(groups.chain(ROWS)) }
+    }
+
+    pub fn count(&mut self, subject: &Subject) {
+        self.stores += 1;
+        for (row, group) in GROUPS.iter().enumerate() {
+            self.counts.hit(row, (group.of)(subject));
+        }
+    }
+
+    /// Counts a call in a buffer of this length.
+    pub fn call(&mut self, subject: &Subject, room: usize) {
+        self.counts.hit(CALLS, Some(subject.outcome(room).verdict));
+        if let Ok(effect) = &subject.right {
+            let exact = effect.patch.len();
+            let kind = match room.cmp(&exact) {
+                Ordering::Less => (room + 1 == exact).then_some(1),
+                Ordering::Equal => Some(2),
+                Ordering::Greater => Some(3),
+            };
+            self.counts.hit(ROOMS, kind);
+        }
+    }
+
+    /// Counts a patch that was applied.
+    pub fn applied(&mut self) {
+        self.counts.hit(APPLIED, Some(1));
+    }
+
+    /// Counts a store compared with its permuted form.
+    pub fn pair(&mut self, subject: &Subject, same: bool) {
+        self.counts.hit(PAIRS, Some(same.into()));
+        if overlaps(subject) {
+            self.counts.hit(OVERLAPPING, Some(same.into()));
+        }
+    }
+
+    pub fn add(&mut self, other: &Tally) {
+        self.stores += other.stores;
+        self.counts.add(&other.counts);
+    }
+
+    /// Prints the counts, and reports what was not hit.
+    pub fn print(&self, report: &Report) {
+        println!("stores: {} compared", self.stores);
+        self.counts.print(report);
+    }
+}
