@@ -10,8 +10,7 @@ ghost use lib.ListN.{length, getD};
 ghost use mir.Syntax.{w64};
 ghost use mir.Val.{ofZ};
 ghost use Rattle.encoding.specs.Encoding.{classFor, refused};
-ghost use Rattle.encoding.specs.Layouts.{layoutOf};
-ghost use Rattle.elements.specs.Machine.{machine, register, bitAt};
+ghost use Rattle.elements.specs.Machine.{Machine, machine, register, bitAt};
 ghost use Rattle.elements.specs.Counter.{counterOf, lowestSet, countIn};
 ghost use Rattle.elements.specs.Stores.{signed32, startOf};
 ghost use Rattle.elements.specs.Accesses.{scatterAccess, quadwordAccess, stridedAccess, PartOf, StridedSound};
@@ -20,7 +19,7 @@ ghost use Rattle.elements.specs.Accesses.{borderOf, lowOf, highOf, strid
 ghost use Rattle.elements.specs.Accesses.{bytesFrom, stridedBytes};
 ghost use Rattle.window.specs.Overwriting.{overwritten};
 use encoding::Extension;
-use encoding::Layout;
+use encoding::Number;
 use encoding::QuadwordFields;
 use encoding::ScatterFields;
 use encoding::Store;
@@ -250,16 +249,17 @@ pub fn scatter_access(f: ScatterFields, vb: usize, x: &[u64; 31], sp: u64) -> Ve
     requires { ⌜ (refused (Store.Scatter f) ≡ false) × (vb ≤ 256) ⌝ }
     ensures { λ r. ⌜ r ≡ scatterAccess (machine vb (now (x .entry)) sp [] []) (classFor (Store.Scatter f)) f ⌝ }
 {
-    let layout = encoding::layout_for(f.class);
     let base = general(x, sp, f.rn);
     let extension = f.extension;
-    let step = layout.step as usize;
+    let scale = encoding::number_for(f.class, Number::Scale);
+    let step = encoding::number_for(f.class, Number::Step) as usize;
+    let size = encoding::number_for(f.class, Number::Size) as usize;
     VectorAccess {
         base,
         extension,
-        scale: layout.scale,
+        scale,
         step,
-        size: layout.size as usize,
+        size,
         count: vb / step,
         offsets: f.zm as usize,
         governing: f.pg as usize,
@@ -271,15 +271,15 @@ pub fn quadword_access(f: QuadwordFields, vb: usize, x: &[u64; 31]) -> VectorAcc
     requires { ⌜ (refused (Store.Quadword f) ≡ false) × (vb ≤ 256) ⌝ }
     ensures { λ r. ⌜ r ≡ quadwordAccess (machine vb (now (x .entry)) 0 [] []) (classFor (Store.Quadword f)) f ⌝ }
 {
-    let layout = encoding::layout_for(f.class);
     let base = general(x, 0, f.rm);
-    let quadword = layout.step as usize;
+    let quadword = encoding::number_for(f.class, Number::Step) as usize;
+    let size = encoding::number_for(f.class, Number::Size) as usize;
     VectorAccess {
         base,
         extension: Extension::None,
         scale: 0,
         step: quadword,
-        size: layout.size as usize,
+        size,
         count: vb / quadword,
         offsets: f.zn as usize,
         governing: f.pg as usize,
@@ -288,18 +288,18 @@ pub fn quadword_access(f: QuadwordFields, vb: usize, x: &[u64; 31]) -> VectorAcc
 }
 
 // The first address of a strided store.
-fn start_of(f: StridedFields, layout: Layout, vb: usize, x: &[u64; 31], sp: u64) -> u64
+pub fn start_of(f: StridedFields, vb: usize, x: &[u64; 31], sp: u64) -> u64
     requires { ⌜ (refused (Store.Strided f) ≡ false) × (vb ≤ 256) ⌝ }
-    requires { ⌜ layout ≡ layoutOf (classFor (Store.Strided f)) ⌝ }
     ensures { λ r.
         ⌜ r ≡ startOf (machine vb (now (x .entry)) sp [] []) (classFor (Store.Strided f)) (f .rn) (f .rm) (f .multiple) % 2 ^ 64 ⌝ }
 {
     let start = general(x, sp, f.rn);
-    if layout.rm == 1 {
+    if encoding::number_for(f.class, Number::RmValues) == 1 {
         return displaced(start, f.multiple, vb);
     }
     let index = general(x, 0, f.rm);
-    std::num::wrapping_add_u64(start, scaled(index, layout.scale))
+    let scale = encoding::number_for(f.class, Number::Scale);
+    std::num::wrapping_add_u64(start, scaled(index, scale))
 }
 
 // From one register of a strided store to the next: 8 for two, 4 for four.
@@ -312,33 +312,41 @@ fn stride_of(nreg: u32) -> usize
     4
 }
 
-pub fn strided_access(
-    f: StridedFields,
-    vb: usize,
-    x: &[u64; 31],
-    sp: u64,
-    p: &[u8],
-) -> StridedAccess
+// The active elements of a strided store.
+pub fn range_for(f: StridedFields, vb: usize, p: &[u8]) -> Range
     requires { ⌜ refused (Store.Strided f) ≡ false ⌝ }
     requires { ⌜ (16 ≤ vb) × (vb ≤ 256) × (length (now p) ≡ 2 * vb) ⌝ }
-    ensures { λ r. ⌜ r ≡ stridedAccess (machine vb (now (x .entry)) sp [] (now (p .entry))) (classFor (Store.Strided f)) f ⌝ }
+    ensures { λ r.
+        ⌜ (r .low ≡ stridedAccess (machine vb [] 0 [] (now (p .entry))) (classFor (Store.Strided f)) f .low)
+        × (r .high ≡ stridedAccess (machine vb [] 0 [] (now (p .entry))) (classFor (Store.Strided f)) f .high) ⌝ }
 {
-    let layout = encoding::layout_for(f.class);
-    let start = start_of(f, layout, vb, x, sp);
     let counter = counter_of(p, vb, f.pc);
     let border = border_of(counter);
-    let per = vb / 8;
-    let nreg = layout.nreg as usize;
-    let range = range_of(counter, border, nreg * per);
-    let stride = stride_of(layout.nreg);
+    let nreg = encoding::number_for(f.class, Number::Nreg) as usize;
+    range_of(counter, border, nreg * (vb / 8))
+}
+
+// A strided store's access, by its first address and its range. The callers find those two, so that this is little and inlined.
+pub fn strided_access(f: StridedFields, start: u64, range: Range, vb: usize) -> StridedAccess
+    requires { ⌜ refused (Store.Strided f) ≡ false ⌝ }
+    ensures { λ r.
+        ⌜ ((m : Machine) → m .vb ≡ vb → start ≡ stridedAccess m (classFor (Store.Strided f)) f .start
+        → range .low ≡ stridedAccess m (classFor (Store.Strided f)) f .low
+        → range .high ≡ stridedAccess m (classFor (Store.Strided f)) f .high
+        → r ≡ stridedAccess m (classFor (Store.Strided f)) f) ⌝ }
+{
+    let nreg = encoding::number_for(f.class, Number::Nreg);
+    let step = encoding::number_for(f.class, Number::Step) as usize;
+    let size = encoding::number_for(f.class, Number::Size) as usize;
+    let stride = stride_of(nreg);
     StridedAccess {
         start,
         low: range.low,
         high: range.high,
-        step: layout.step as usize,
-        size: layout.size as usize,
-        per,
-        nreg,
+        step,
+        size,
+        per: vb / 8,
+        nreg: nreg as usize,
         first: f.first as usize,
         stride,
     }

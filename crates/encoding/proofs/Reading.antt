@@ -65,7 +65,7 @@ zt-whole c w = go (has c Zt3)
 pub layout-bounded : (c : Class) (l : Layout) → l ≡ layoutOf c → Small c → Bounded l
 layout-bounded c l e s =
     subst Bounded (sym e)
-    (record { nreg = s .nreg; xs = s .xs; rm = s .rm; imm4 = s .imm4; zt = s .zt; step = s .step; size = s .size; scale = s .scale })
+    (record { nreg = s .nreg; xs = s .xs; rm = s .rm; imm4 = s .imm4; zt = s .zt })
 
 -- ---- stores
 

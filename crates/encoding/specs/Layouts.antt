@@ -8,6 +8,8 @@ use Rattle.encoding.specs.Encoding.{lowest}
 use Rattle.encoding.specs.declared.Feature.{Feature}
 use Rattle.encoding.specs.declared.Feature.the-variants.{SVE, SME2, SVE2p1}
 use Rattle.encoding.specs.declared.Layout.{Layout}
+use Rattle.encoding.specs.declared.Number.{Number}
+use Rattle.encoding.specs.declared.Number.the-variants.{Nreg, RmValues, Step, Size, Scale}
 
 abbrev pub layoutOf : Class → Layout
 layoutOf c =
@@ -17,10 +19,14 @@ layoutOf c =
       rm = 2 ^ width c Rm;
       imm4 = 2 ^ width c imm4;
       zt = 2 ^ width c (ztOf c);
-      step = c .esize / 8;
-      size = c .msize / 8;
-      scale = c .scale;
     }
+
+abbrev pub numberIn : Class → Number → ℕ
+numberIn c Nreg = c .nreg
+numberIn c RmValues = 2 ^ width c Rm
+numberIn c Step = c .esize / 8
+numberIn c Size = c .msize / 8
+numberIn c Scale = c .scale
 
 -- hexadecimal digit k of a number, counted from the right
 abbrev pub digitAt : ℕ → ℕ → ℕ
@@ -55,6 +61,3 @@ pub record Bounded (l : Layout) : Type 0 where
   pub rm : (0 < l .rm) × (l .rm ≤ 32)
   pub imm4 : (0 < l .imm4) × (l .imm4 ≤ 16)
   pub zt : (0 < l .zt) × (l .zt ≤ 8)
-  pub step : (0 < l .step) × (l .step ≤ 16)
-  pub size : (0 < l .size) × (l .size ≤ l .step)
-  pub scale : l .scale < 4

@@ -11,12 +11,13 @@ ghost use Rattle.encoding.specs.Classes.{classes, classAt};
 ghost use Rattle.encoding.specs.declared.Feature.the-variants.{SVE, SME2, SVE2p1};
 ghost use Rattle.encoding.specs.Decoding.{decodeOf, storeOf, multipleOf, extensionOf};
 ghost use Rattle.encoding.specs.Encoding.{encodeOf, classNumbered, rowNumbered, immOf, misextends, xsOf};
-ghost use Rattle.encoding.specs.Layouts.{layoutOf, Bounded};
+ghost use Rattle.encoding.specs.Layouts.{numberIn};
 use table::CLASSES;
 use table::base_of;
 use table::feature_at;
 use table::index_of;
 use table::layout_of;
+use table::number_at;
 use table::row_numbered;
 use table::row_of;
 
@@ -82,17 +83,24 @@ pub enum Encoded {
     Fields,
 }
 
-// What code needs of a class: its number of registers; how many values the fields can take in which classes of one feature differ,
-// 1 for a field that the class lacks; esize/8, msize/8 and the scale.
+// What decoding and encoding need of a class: its number of registers, and how many values the fields can take in which classes of
+// one feature differ, 1 for a field that the class lacks.
 pub struct Layout {
     pub nreg: u32,
     pub xs: u32,
     pub rm: u32,
     pub imm4: u32,
     pub zt: u32,
-    pub step: u32,
-    pub size: u32,
-    pub scale: u32,
+}
+
+// What a store's elements need of its class, one number at a time: how many registers, how many values Rm can take, esize/8, msize/8
+// and the scale.
+pub enum Number {
+    Nreg,
+    RmValues,
+    Step,
+    Size,
+    Scale,
 }
 
 // imm4 read as -8..7, times the number of registers.
@@ -340,11 +348,10 @@ pub fn feature_of(class: u8) -> Feature
     feature_at(k)
 }
 
-// The layout of the class with this number.
-pub fn layout_for(class: u8) -> Layout
+// A number of the class that has this number in the list.
+pub fn number_for(class: u8, number: Number) -> u32
     requires { ⌜ rowNumbered class < length classes ⌝ }
-    ensures is { λ r. ⌜ r ≡ layoutOf (classNumbered class) ⌝ }
-    ensures bounded { λ r. ⌜ Bounded r ⌝ }
+    ensures { λ r. ⌜ r ≡ numberIn (classNumbered class) number ⌝ }
 {
-    layout_of(row_numbered(class))
+    number_at(row_numbered(class), number)
 }

@@ -5,9 +5,10 @@ ghost use lib.ListN.{length};
 ghost use Rattle.encoding.specs.Classes.{classes, classAt, flag};
 ghost use Rattle.encoding.specs.Decoding.{indexOf};
 ghost use Rattle.encoding.specs.Encoding.{rowOf, rowNumbered};
-ghost use Rattle.encoding.specs.Layouts.{layoutOf, digitAt, packedOf, featureFrom, Bounded};
+ghost use Rattle.encoding.specs.Layouts.{layoutOf, numberIn, digitAt, packedOf, featureFrom, Bounded};
 use super::Feature;
 use super::Layout;
+use super::Number;
 
 pub(crate) const CLASSES: usize = 12;
 
@@ -135,9 +136,21 @@ pub(crate) fn layout_of(k: usize) -> Layout
         rm: power(n, 7),
         imm4: power(n, 6),
         zt: power(n, 5),
-        step: power(n, 4),
-        size: power(n, 3),
-        scale: digit(n, 2),
+    }
+}
+
+// A number of class k + 1. One at a time, so that nothing is read that isn't needed.
+pub(crate) fn number_at(k: usize, number: Number) -> u32
+    requires { ⌜ k < length classes ⌝ }
+    ensures { λ r. ⌜ r ≡ numberIn (classAt k) number ⌝ }
+{
+    let n = packed(k);
+    match number {
+        Number::Nreg => digit(n, 9),
+        Number::RmValues => power(n, 7),
+        Number::Step => power(n, 4),
+        Number::Size => power(n, 3),
+        Number::Scale => digit(n, 2),
     }
 }
 

@@ -98,9 +98,13 @@ fn access_for(store: Store, vb: usize, x: &[u64; 31], sp: u64, p: &[u8]) -> Chec
         Store::Scatter(f) => Checked::Vector {
             access: elements::scatter_access(f, vb, x, sp),
         },
-        Store::Strided(f) => Checked::Strided {
-            access: elements::strided_access(f, vb, x, sp, p),
-        },
+        Store::Strided(f) => {
+            let start = elements::start_of(f, vb, x, sp);
+            let range = elements::range_for(f, vb, p);
+            Checked::Strided {
+                access: elements::strided_access(f, start, range, vb),
+            }
+        }
         Store::Quadword(f) => Checked::Vector {
             access: elements::quadword_access(f, vb, x),
         },

@@ -1,101 +1,90 @@
--- `strided_access`: the class's numbers, the counter's range and the store's fields. No loop. Assumes nothing.
-use mathlib.Core.Path.{_≡_, ap, _∙_}
-use Prim.Native.Nat.{_*_, _/_, _≤_}
-use native.Mathlib.Nat.{mul-le-mul}
-use native.Mathlib.Omega.{arith}
-use mir.Syntax.{w64}
-use mir.Val.{Fits}
+-- `strided_access`: the class's numbers and the store's fields. No loop. Assumes nothing.
+use mathlib.Core.Path.{_≡_, sym, ap, _∙_}
+use Prim.Native.Nat.{ℕ, _/_}
+use mathlib.Core.Bool.{cond}
+use lib.Dec.{eqb}
 use Rattle.encoding.specs.Encoding.{classNumbered, classFor}
-use Rattle.encoding.specs.Layouts.{layoutOf}
-use Rattle.encoding.specs.declared.Layout.{Layout}
+use Rattle.encoding.specs.Layouts.{numberIn}
+use Rattle.encoding.specs.declared.Number.{Number}
+use Rattle.encoding.specs.declared.Number.the-variants.{Nreg, Step, Size}
 use Rattle.encoding.specs.declared.Store.the-variants.{Strided}
-use Rattle.encoding.proofs.Statements.{listed, class-numbered}
+use Rattle.encoding.proofs.Statements.{listed}
+use Rattle.elements.specs.Accesses.{stridedAccess}
+use Rattle.elements.specs.declared.StridedAccess.{StridedAccess}
 use Rattle.elements.proofs.Shapes.{StridedIn, strided-in}
-use Rattle.elements.proofs.Numbers.{strided-numbers}
+use Rattle.elements.proofs.Numbers.{number-is, pers}
 use borrow.Author.Needs.{needs}
 use Rattle.elements.proofs.strided_access.Statement.{statement}
 use Rattle.elements.proofs.strided_access.Tie as tie
 
--- what the store's fields are
 fields : (a : tie.Start) → StridedIn (a .args .f) (classFor (Strided (a .args .f)))
-fields a = strided-in (a .args .f) (a .pre .0)
+fields a = strided-in (a .args .f) (a .pre)
 
--- at most four registers
-few : (a : tie.Start) (l : Layout) → l ≡ layoutOf (classFor (Strided (a .args .f))) → Fits w64 (l .nreg * (a .args .vb / 8))
-few a l e =
-    let n : l .nreg ≤ 4 = omega (arith, ap (λ (y : Layout). y .nreg) e, fields a .small .nreg) in
-    let k : a .args .vb / 8 ≤ 32 = omega (arith, a .pre .1 .1) in
-    record { fits = omega (arith, mul-le-mul n k) }
+-- a number of the store's class
+number : (a : tie.Start) (x : Number) (n : ℕ) → n ≡ numberIn (classNumbered (a .args .f .class)) x
+    → n ≡ numberIn (classFor (Strided (a .args .f))) x
+number a = number-is (Strided (a .args .f)) (a .pre)
 
-layout-for-requires : tie.Need-layout-for-requires
-layout-for-requires c κs = listed (Strided (c .before .args .f)) (c .before .pre .0)
+number-for-requires : tie.Need-number-for-requires
+number-for-requires c κs = listed (Strided (c .args .f)) (c .pre)
 
--- the layout of the store's class
-layout-is : (a : tie.Start) (l : Layout) → l ≡ layoutOf (classNumbered (a .args .f .class))
-    → l ≡ layoutOf (classFor (Strided (a .args .f)))
-layout-is a l e = e ∙ ap layoutOf (class-numbered (Strided (a .args .f)) (a .pre .0))
+number-for-requires-2 : tie.Need-number-for-requires-2
+number-for-requires-2 c κs = listed (Strided (c .before .args .f)) (c .before .pre)
 
-start-of-requires : tie.Need-start-of-requires
-start-of-requires c κs =
-    let a = c .before .before in
-    ((a .pre .0, a .pre .1 .1), layout-is a _ (c .layout-for .ensures .0))
+cast-step : tie.Need-cast-step
+cast-step c = search needs
 
-counter-of-requires : tie.Need-counter-of-requires
-counter-of-requires c κs = let a = c .before .before .before in (fields a .pc, a .pre .1 .0, a .pre .1 .1, a .pre .1 .2)
+number-for-requires-3 : tie.Need-number-for-requires-3
+number-for-requires-3 c κs = let a = c .before .before in listed (Strided (a .args .f)) (a .pre)
 
-border-of-requires : tie.Need-border-of-requires
-border-of-requires c κs = search needs
-
-cast-nreg : tie.Need-cast-nreg
-cast-nreg c = search needs
-
-mul-range-of : tie.Need-mul-range-of
-mul-range-of c =
-    let l = c .before .before .before .before in
-    few (l .before .before) (l .layout-for .result) (layout-is (l .before .before) _ (l .layout-for .ensures .0))
-
-range-of-requires : tie.Need-range-of-requires
-range-of-requires c κs = search needs
+cast-size : tie.Need-cast-size
+cast-size c = search needs
 
 stride-of-requires : tie.Need-stride-of-requires
 stride-of-requires c κs = search needs
 
-cast-t14 : tie.Need-cast-t14
-cast-t14 c = search needs
+cast-t12 : tie.Need-cast-t12
+cast-t12 c = search needs
 
-cast-t15 : tie.Need-cast-t15
-cast-t15 c = search needs
-
-cast-t16 : tie.Need-cast-t16
-cast-t16 c = search needs
+cast-t13 : tie.Need-cast-t13
+cast-t13 c = search needs
 
 returns : tie.Need-returns
-returns c =
-    let d = c .before .before .before in
-    let r = d .before in
-    let v = r .before .before .before in
-    let t = v .before in
-    let l = t .before in
-    let a = l .before .before in
-    let i = fields a in
-    strided-numbers (a .args .vb) (a .args .x .now) _ (l .layout-for .result) (layout-is a _ (l .layout-for .ensures .0)) (i .eight)
-    (a .args .sp) (t .start-of .result) (v .counter-of .result) (r .range-of .result .low) (r .range-of .result .high)
-    (d .stride-of .result) (a .args .p .now) (a .args .f) (i .step) (t .start-of .ensures) (v .counter-of .ensures)
-    (r .range-of .ensures .0) (r .range-of .ensures .1) (d .stride-of .ensures)
+returns c m v qs ql qh =
+    let d = c .before in
+    let n = d .before in
+    let t = n .before in
+    let g = t .before in
+    let a = g .before in
+    let f = a .args .f in
+    let registers = number a Nreg (g .number-for .result) (g .number-for .ensures) in
+    let per = ap (λ (y : ℕ). y / 8) (sym v) ∙ pers (m .vb) (classFor (Strided f)) (fields a .eight) 8 (sym (fields a .step)) in
+    let stride = d .stride-of .ensures ∙ ap (λ (y : ℕ). cond (eqb y 2) 8 4) registers in
+    let e : _≡_ {A = StridedAccess} _ (stridedAccess m (classFor (Strided f)) f) =
+    λ i.
+    record {
+      start = qs i;
+      low = ql i;
+      high = qh i;
+      step = number a Step (t .number-for2 .result) (t .number-for2 .ensures) i;
+      size = number a Size (n .number-for3 .result) (n .number-for3 .ensures) i;
+      per = per i;
+      nreg = registers i;
+      first = f .first;
+      stride = stride i;
+    } in
+    e
 
 pub strided-access-spec : {M : Type 1} → statement M
 strided-access-spec =
     tie.close
     (tie.spec
-    layout-for-requires
-    start-of-requires
-    counter-of-requires
-    border-of-requires
-    cast-nreg
-    mul-range-of
-    range-of-requires
+    number-for-requires
+    number-for-requires-2
+    cast-step
+    number-for-requires-3
+    cast-size
     stride-of-requires
-    cast-t14
-    cast-t15
-    cast-t16
+    cast-t12
+    cast-t13
     returns)

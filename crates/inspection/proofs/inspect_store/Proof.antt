@@ -1,14 +1,14 @@
 -- `inspect_store`: the element of the store's access, by its case. Assumes nothing.
 use mathlib.Core.Bool.{false}
-use mathlib.Core.Path.{_≡_, sym, ap, _∙_, subst}
+use mathlib.Core.Path.{_≡_, refl, sym, ap, _∙_, subst}
 use Prim.Native.Nat.{_*_}
 use lib.ListN.{length}
-use Rattle.encoding.specs.Encoding.{refused}
+use Rattle.encoding.specs.Encoding.{classFor, refused}
 use Rattle.encoding.specs.declared.Store.{Store}
 use Rattle.encoding.specs.declared.Store.the-variants.{Scatter, Strided, Quadword}
 use Rattle.window.proofs.LittleEndian.{bytes-at}
 use Rattle.elements.specs.Machine.{Machine, machine}
-use Rattle.elements.specs.Accesses.{VectorSound, StridedSound}
+use Rattle.elements.specs.Accesses.{stridedAccess, VectorSound, StridedSound}
 use Rattle.elements.specs.declared.VectorAccess.{VectorAccess}
 use Rattle.elements.specs.declared.StridedAccess.{StridedAccess}
 use Rattle.elements.proofs.Shapes.{scatter-in, quadword-in, strided-in}
@@ -66,19 +66,38 @@ inspect-vector-requires c κs =
 enum-known-store-2 : tie.Need-enum-known-store-2
 enum-known-store-2 c = search needs
 
-strided-access-requires : tie.Need-strided-access-requires
-strided-access-requires c κs =
-    let t = c .before in
-    let a = t .before .before .before .before in
+abbrev strided : tie.After-store2 → tie.Start
+strided t = t .before .before .before .before
+
+start-of-requires : tie.Need-start-of-requires
+start-of-requires c κs = let t = c .before in (ok (strided t) _ (t .store2 .given .1), strided t .pre .1 .high)
+
+range-for-requires : tie.Need-range-for-requires
+range-for-requires c κs =
+    let t = c .before .before in
+    let a = strided t in
     (ok a _ (t .store2 .given .1), (a .pre .1 .low, a .pre .1 .high, a .pre .1 .long-p))
+
+strided-access-requires : tie.Need-strided-access-requires
+strided-access-requires c κs = let t = c .before .before .before in ok (strided t) _ (t .store2 .given .1)
+
+-- the access is the store's
+accessed : (c : tie.After-strided-access)
+    → let t = c .before .before .before .before in
+    let f = t .store2 .given .0 .0 in
+    c .strided-access .result ≡ stridedAccess (m (strided t)) (classFor (Strided f)) f
+accessed c =
+    let r = c .before in
+    c .strided-access .ensures (m (strided (r .before .before .before))) refl
+    (r .before .start-of .ensures) (r .range-for .ensures .0) (r .range-for .ensures .1)
 
 inspect-strided-requires : tie.Need-inspect-strided-requires
 inspect-strided-requires c κs =
-    let t = c .before .before in
-    let a = t .before .before .before .before in
+    let t = c .before .before .before .before in
+    let a = strided t in
     let f = t .store2 .given .0 .0 in
     let s = strided-in f (ok a (Strided f) (t .store2 .given .1)) in
-    subst (λ (v : StridedAccess). StridedSound v (a .args .vb)) (sym (c .strided-access .ensures))
+    subst (λ (v : StridedAccess). StridedSound v (a .args .vb)) (sym (accessed c))
     (strided-sound (m a) (a .pre .1 .low) (a .pre .1 .high) (a .pre .1 .sixteen) f s)
 
 enum-known-store-3 : tie.Need-enum-known-store-3
@@ -110,12 +129,12 @@ returns c =
 
 returns-2 : tie.Need-returns-2
 returns-2 c =
-    let t = c .before .before .before in
-    let a = t .before .before .before .before in
+    let t = c .before .before .before .before .before in
+    let a = strided t in
     let f = t .store2 .given .0 .0 in
     let s = strided-in f (ok a (Strided f) (t .store2 .given .1)) in
     c .inspect-strided .ensures
-    ∙ ap (λ (v : StridedAccess). stridedInspected v (a .args .vb) (a .args .e)) (c .before .strided-access .ensures)
+    ∙ ap (λ (v : StridedAccess). stridedInspected v (a .args .vb) (a .args .e)) (accessed (c .before))
     ∙ strided-inspected (m a) (a .args .e) f s
     ∙ ap (λ (y : Store). inspectedAt (m a) y (a .args .e)) (sym (t .store2 .given .1))
 
@@ -136,6 +155,8 @@ inspect-store-spec =
     scatter-access-requires
     inspect-vector-requires
     enum-known-store-2
+    start-of-requires
+    range-for-requires
     strided-access-requires
     inspect-strided-requires
     enum-known-store-3

@@ -32,20 +32,11 @@ power-requires-3 c κs = search needs
 power-requires-4 : tie.Need-power-requires-4
 power-requires-4 c κs = search needs
 
-power-requires-5 : tie.Need-power-requires-5
-power-requires-5 c κs = search needs
-
-power-requires-6 : tie.Need-power-requires-6
-power-requires-6 c κs = search needs
-
-digit-requires-2 : tie.Need-digit-requires-2
-digit-requires-2 c κs = search needs
-
 returns : tie.Need-returns
 unfolding classes any has every lowest packedOf digitsAre
 returns c =
-    let b = c .before .before .before .before in
-    let p = b .before .before .before .before in
+    let b = c .before .before .before in
+    let p = b .before .before in
     let k = p .before .args .k in
     let h : k < length classes = search needs in
     let n = p .packed in
@@ -54,14 +45,11 @@ returns c =
     let e : _≡_ {A = Layout} _ (layoutOf (classAt k)) =
     λ i.
     record {
-      nreg = one (λ c. c .nreg) 9 _ (b .before .before .before .digit .ensures .0) tt i;
-      xs = two (λ c. 2 ^ width c xs) 8 _ (b .before .before .power .ensures) tt i;
-      rm = two (λ c. 2 ^ width c Rm) 7 _ (b .before .power2 .ensures) tt i;
-      imm4 = two (λ c. 2 ^ width c imm4) 6 _ (b .power3 .ensures) tt i;
-      zt = two (λ c. 2 ^ width c (ztOf c)) 5 _ (c .before .before .before .power4 .ensures) tt i;
-      step = two (λ c. c .esize / 8) 4 _ (c .before .before .power5 .ensures) tt i;
-      size = two (λ c. c .msize / 8) 3 _ (c .before .power6 .ensures) tt i;
-      scale = one (λ c. c .scale) 2 _ (c .digit2 .ensures .0) tt i;
+      nreg = one (λ c. c .nreg) 9 _ (b .before .digit .ensures .0) tt i;
+      xs = two (λ c. 2 ^ width c xs) 8 _ (b .power .ensures) tt i;
+      rm = two (λ c. 2 ^ width c Rm) 7 _ (c .before .before .power2 .ensures) tt i;
+      imm4 = two (λ c. 2 ^ width c imm4) 6 _ (c .before .power3 .ensures) tt i;
+      zt = two (λ c. 2 ^ width c (ztOf c)) 5 _ (c .power4 .ensures) tt i;
     } in
     (e, layout-bounded (classAt k) _ e (small-at k h))
 
@@ -75,7 +63,4 @@ layout-of-spec =
     power-requires-2
     power-requires-3
     power-requires-4
-    power-requires-5
-    power-requires-6
-    digit-requires-2
     returns)
