@@ -6,4 +6,3 @@ pub mod Applying
 pub mod Demand1
 pub mod Demand2
 pub mod Demand3
-pub mod Calls

@@ -19,10 +19,10 @@ use Rattle.storing.specs.Storing.{bufferAfter, Stored}
 use Rattle.patch.specs.Answers.{appliedNumber}
 use Rattle.patch.specs.Applying.{AppliedTo}
 use Rattle.patch.specs.declared.Applied.{Applied}
 use Rattle.demands.specs.Demand3.{NoneDue, effectFor, patchFor, HasRoom, HandsOut}
-use Rattle.demands.specs.Calls.{AppliedIf, ThenApplied, lengthOf, Replayed, Compared}
 use Rattle.demands.proofs.Demand3.{demand3}
 use Rattle.demands.proofs.Storing.{is-done}
+use Rattle.replaying.specs.Calls.{AppliedIf, ThenApplied, lengthOf, Replayed, Compared}
 
 -- ---- one call
 

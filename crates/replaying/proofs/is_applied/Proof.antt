@@ -3,9 +3,9 @@ use mathlib.Core.Path.{refl, ap}
 use native.Mathlib.Omega.{arith}
 use borrow.Author.Needs.{needs}
 use Rattle.patch.specs.Answers.{appliedNumber}
-use Rattle.demands.proofs.Calls.{if-refused}
-use Rattle.demands.proofs.is_applied.Statement.{statement}
-use Rattle.demands.proofs.is_applied.Tie as tie
+use Rattle.replaying.proofs.Calls.{if-refused}
+use Rattle.replaying.proofs.is_applied.Statement.{statement}
+use Rattle.replaying.proofs.is_applied.Tie as tie
 
 apply-requires : tie.Need-apply-requires
 apply-requires c κs = search needs

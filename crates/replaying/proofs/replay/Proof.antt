@@ -9,19 +9,26 @@ use borrow.Author.Needs.{needs}
 use Rattle.window.specs.LittleEndian.{Bytes}
 use Rattle.window.proofs.LittleEndian.{bytes-at}
 use Rattle.elements.specs.Machine.{Machine, machine}
-use Rattle.demands.proofs.Calls.{part-in, replayed, not-replayed}
-use Rattle.demands.proofs.replay.Statement.{statement}
-use Rattle.demands.proofs.replay.Tie as tie
+use Rattle.replaying.proofs.Calls.{part-in, replayed, not-replayed}
+use Rattle.replaying.proofs.replay.Statement.{statement}
+use Rattle.replaying.proofs.replay.Tie as tie
 
--- after both stores; after the first; where what stands in the windows is known; the function's entry, and the machine lent
+-- after both stores; between them, and after the first
 abbrev At : Type 0
 At = tie.After-store2
 
+abbrev between : At → tie.After-slice-known7
+between k = k .before .before .before
+
 abbrev first : At → tie.After-store
-first k = k .before .before .before .before .before .before .before
+first k = between k .before .before .before .before
+
+-- where what stands in all buffers is known, and in the two windows; the function's entry, and the machine lent
+abbrev known : At → tie.After-slice-known5
+known k = first k .before .before .before
 
 abbrev lent : At → tie.After-slice-known2
-lent k = first k .before .before .before .before .before .before
+lent k = known k .before .before .before
 
 abbrev st : At → tie.Start
 st k = lent k .before .before .before .before
@@ -38,6 +45,13 @@ memory-bytes k = bytes-at (st k .args .memory .now) (λ i. lent k .before .slice
 
 other-bytes : (k : At) → Bytes (st k .args .other .now)
 other-bytes k = bytes-at (st k .args .other .now) (λ i. lent k .slice-known2 .given i .fits)
+
+-- where what both stores left is known, back to the stores; from the application, back to the test of the patch's length
+abbrev both : tie.After-slice-known9 → At
+both b = b .before .before .before .before
+
+abbrev tested : tie.After-is-applied → tie.Else1
+tested a = a .before .before .before .before
 
 -- what the first patch buffer holds
 abbrev held : At → List ℕ
@@ -66,11 +80,12 @@ same-length-4 c = search needs
 
 returns : tie.Need-returns
 returns c =
-    let k = c .before .before .before .before .before .before in
+    let l = c .before in
+    let k = both (l .before) in
     let g = st k .args in
     not-replayed (g .flags) (m k) (g .base) (g .memory .now) (g .other .now) (g .target .now) (g .word) (g .patch .now) (g .scratch .now)
     (first k .store .result) (k .store2 .result) _ _ _ _ (first k .store .ensures) (k .store2 .ensures)
-    (sym (c .before .length-of .ensures) ∙ c .if1 .taken)
+    (sym (l .length-of .ensures) ∙ c .if1 .taken)
 
 sub-is-applied : tie.Need-sub-is-applied
 sub-is-applied c = search needs
@@ -80,15 +95,16 @@ part-is-applied-start c = search needs
 
 part-is-applied-end : tie.Need-part-is-applied-end
 part-is-applied-end c =
-    let k = c .before .before .before .before .before .before .before .before in
+    let t = c .before .before in
+    let k = both (t .before .before) in
     let g = st k .args in
-    let q = c .before .before .before .length-of .ensures in
+    let q = t .before .length-of .ensures in
     omega (
       arith,
       q,
       part-in (g .flags) (m k) (g .base) (g .memory .now) (g .word) (g .patch .now) (first k .store .result) _ (held k)
           (first k .store .ensures)
-          (λ e. c .before .before .if1 .left (q ∙ e)),
+          (λ e. t .if1 .left (q ∙ e)),
     )
 
 is-applied-requires : tie.Need-is-applied-requires
@@ -111,15 +127,16 @@ same-length-9 c = search needs
 
 returns-2 : tie.Need-returns-2
 returns-2 c =
-    let k = c .before .before .before .before .before .before .before .before .before .before .before .before in
+    let a = c .before .before in
+    let t = tested a in
+    let k = both (t .before .before) in
     let g = st k .args in
-    let t = c .before .before .before .before .before .before in
     let q = t .before .length-of .ensures in
     replayed (g .flags) (m k) (g .base) (g .memory .now) (g .other .now) (g .target .now) (g .word) (g .patch .now) (g .scratch .now)
     (first k .store .result) (k .store2 .result) _ _ _ _ (first k .store .ensures) (k .store2 .ensures)
     (z-bytes k) (memory-bytes k) (other-bytes k) (λ e. t .if1 .left (q ∙ e)) _
     (ap (λ (j : ℕ). take j (held k)) (sub-zero (t .before .length-of .result) ∙ q))
-    (c .before .before .is-applied .result) _ (c .before .before .is-applied .ensures)
+    (a .is-applied .result) _ (a .is-applied .ensures)
 
 pub replay-spec : {M : Type 1} → statement M
 replay-spec =

@@ -10,17 +10,21 @@ use borrow.Author.Needs.{needs}
 use Rattle.window.specs.LittleEndian.{Bytes}
 use Rattle.window.proofs.LittleEndian.{bytes-at}
 use Rattle.elements.specs.Machine.{Machine, machine}
-use Rattle.demands.proofs.Calls.{part-in, compared, not-compared}
-use Rattle.demands.proofs.same_patches.Statement.{statement}
-use Rattle.demands.proofs.same_patches.Tie as tie
+use Rattle.replaying.proofs.Calls.{part-in, compared, not-compared}
+use Rattle.replaying.proofs.same_patches.Statement.{statement}
+use Rattle.replaying.proofs.same_patches.Tie as tie
 
--- after both stores; after the first; where what stands in the windows is known; the function's entry, and the machines lent
+-- after both stores; between them, and after the first
 abbrev At : Type 0
 At = tie.After-store2
 
-abbrev first : At → tie.After-store
-first k = k .before .before .before .before .before .before .before
+abbrev between : At → tie.After-slice-known6
+between k = k .before .before .before
 
+abbrev first : At → tie.After-store
+first k = between k .before .before .before .before
+
+-- where what stands in the windows is known; the function's entry, and the machines lent
 abbrev lent : At → tie.After-slice-known3
 lent k = first k .before .before .before .before
 
@@ -48,6 +52,16 @@ memory-bytes k = bytes-at (st k .args .memory .now) (λ i. lent₀ k .slice-know
 
 memory₁-bytes : (k : At) → Bytes (st k .args .memory1 .now)
 memory₁-bytes k = bytes-at (st k .args .memory1 .now) (λ i. lent k .slice-known3 .given i .fits)
+
+-- where what both stores left is known, and both lengths are, back to the stores; from the cut patches, back to the tests of the lengths
+abbrev both : tie.After-slice-known8 → At
+both b = b .before .before .before .before
+
+abbrev stored : tie.After-length-of2 → At
+stored l = both (l .before .before)
+
+abbrev tested : tie.After-equal-arg → tie.Else2
+tested a = a .before .before
 
 -- what the patch buffers hold
 abbrev held : At → List ℕ
@@ -82,12 +96,13 @@ same-length-4 c = search needs
 
 returns : tie.Need-returns
 returns c =
-    let k = c .before .before .before .before .before .before .before in
+    let l = c .before in
+    let k = stored l in
     let g = st k .args in
     not-compared (g .base) (g .flags) (m k) (g .memory .now) (g .word) (g .flags1) (m₁ k) (g .memory1 .now) (g .word1)
     (g .patch .now) (g .patch1 .now) (first k .store .result) (k .store2 .result) _ _ (held k) (held₁ k)
     (first k .store .ensures) (k .store2 .ensures)
-    (inl (sym (c .before .before .length-of .ensures) ∙ c .if1 .taken))
+    (inl (sym (l .before .length-of .ensures) ∙ c .if1 .taken))
 
 same-length-5 : tie.Need-same-length-5
 same-length-5 c = search needs
@@ -103,12 +118,13 @@ same-length-8 c = search needs
 
 returns-2 : tie.Need-returns-2
 returns-2 c =
-    let k = c .before .before .before .before .before .before .before .before in
+    let l = c .before .before in
+    let k = stored l in
     let g = st k .args in
     not-compared (g .base) (g .flags) (m k) (g .memory .now) (g .word) (g .flags1) (m₁ k) (g .memory1 .now) (g .word1)
     (g .patch .now) (g .patch1 .now) (first k .store .result) (k .store2 .result) _ _ (held k) (held₁ k)
     (first k .store .ensures) (k .store2 .ensures)
-    (inr (sym (c .before .before .length-of2 .ensures) ∙ c .if2 .taken))
+    (inr (sym (l .length-of2 .ensures) ∙ c .if2 .taken))
 
 sub-equal : tie.Need-sub-equal
 sub-equal c = search needs
@@ -118,15 +134,17 @@ part-equal-start c = search needs
 
 part-equal-end : tie.Need-part-equal-end
 part-equal-end c =
-    let k = c .before .before .before .before .before .before .before .before .before in
+    let t = c .before .before in
+    let l = t .before in
+    let k = stored l in
     let g = st k .args in
-    let q = c .before .before .before .before .length-of .ensures in
+    let q = l .before .length-of .ensures in
     omega (
       arith,
       q,
       part-in (g .flags) (m k) (g .base) (g .memory .now) (g .word) (g .patch .now) (first k .store .result) _ (held k)
           (first k .store .ensures)
-          (λ e. c .before .before .if1 .left (q ∙ e)),
+          (λ e. t .if1 .left (q ∙ e)),
     )
 
 sub-equal-2 : tie.Need-sub-equal-2
@@ -137,10 +155,11 @@ part-equal-start-2 c = search needs
 
 part-equal-end-2 : tie.Need-part-equal-end-2
 part-equal-end-2 c =
-    let k = c .before .before .before .before .before .before .before .before .before .before .before in
+    let t = tested (c .before) in
+    let l = t .before .before in
+    let k = stored l in
     let g = st k .args in
-    let t = c .before .before .before in
-    let q = t .before .before .length-of2 .ensures in
+    let q = l .length-of2 .ensures in
     omega (
       arith,
       q,
@@ -166,11 +185,12 @@ same-length-12 c = search needs
 
 returns-3 : tie.Need-returns-3
 returns-3 c =
-    let k = c .before .before .before .before .before .before .before .before .before .before .before .before .before in
+    let t = tested (c .before .before .before) in
+    let both-lengths = t .before .before in
+    let k = stored both-lengths in
     let g = st k .args in
-    let t = c .before .before .before .before .before in
-    let l = t .before .before .before .length-of in
-    let l₁ = t .before .before .length-of2 in
+    let l = both-lengths .before .length-of in
+    let l₁ = both-lengths .length-of2 in
     compared (g .base) (g .flags) (m k) (g .memory .now) (g .word) (g .flags1) (m₁ k) (g .memory1 .now) (g .word1)
     (g .patch .now) (g .patch1 .now) (first k .store .result) (k .store2 .result) _ _ (held k) (held₁ k)
     (first k .store .ensures) (k .store2 .ensures)

@@ -5,8 +5,8 @@ use native.Mathlib.Omega.{arith}
 use lib.ListN.{length, getD}
 use lib.Seq.{ext-getD}
 use Rattle.window.proofs.Order.{three, absurdly}
-use Rattle.demands.proofs.equal.Statement.{statement}
-use Rattle.demands.proofs.equal.Tie as tie
+use Rattle.replaying.proofs.equal.Statement.{statement}
+use Rattle.replaying.proofs.equal.Tie as tie
 
 abbrev Inv-loop : tie.InvT-loop
 Inv-loop a b n i₀ i = (j : ℕ) → j < i → getD a j 0 ≡ getD b j 0
