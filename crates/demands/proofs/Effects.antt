@@ -34,7 +34,7 @@ use Rattle.verdicts.specs.Statements.{before}
 use Rattle.verdicts.specs.declared.Flags.{Flags}
 use Rattle.verdicts.proofs.Rows.{none-parted}
 use Rattle.demands.specs.Demand3.{DoneOver, effectFor, patchFor}
-use Rattle.verdicts.specs.Checking.{Sound}
+use Rattle.checks.specs.Checking.{Sound}
 use Rattle.demands.proofs.Sources.{whole, element-of}
 use Rattle.demands.proofs.Storing.{settled, all-inside}
 

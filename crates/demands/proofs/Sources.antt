@@ -21,8 +21,8 @@ use Rattle.elements.specs.Elements.{elementAt}
 use Rattle.elements.proofs.Numbers.{per-is, register-in, register-long}
 use Rattle.elements.proofs.Shapes.{scatter-in, quadword-in, strided-in}
 use Rattle.verdicts.specs.Verdicts.{lengthOk, registersOk}
-use Rattle.verdicts.specs.Checking.{Sound}
-use Rattle.verdicts.proofs.Order.{length-sound}
+use Rattle.checks.specs.Checking.{Sound}
+use Rattle.checks.proofs.Order.{length-sound}
 use Rattle.demands.specs.Demand2.{ElementBytes}
 
 -- what verdicts 1 and 2 leave of VB and the buffers

@@ -41,7 +41,7 @@ use Rattle.demands.specs.Demand2.{ListsTheActive, Rising, InAscendingOrd
 use Rattle.demands.specs.Demand2.{tableFor, StoringDecided, FaultGiven, liesIn, FaultNamesTheLowest}
 use Rattle.demands.specs.Demand3.{NoneDue}
 use Rattle.demands.proofs.Listed.{listed-among, listed-at, first-outside}
-use Rattle.verdicts.specs.Checking.{Sound}
+use Rattle.checks.specs.Checking.{Sound}
 use Rattle.demands.proofs.Sources.{sound, some-bytes}
 
 -- ---- demand 1

@@ -15,7 +15,7 @@ use Rattle.window.proofs.Windows.{window-inv, in-window-inv}
 use Rattle.elements.specs.Elements.{actives}
 use Rattle.elements.proofs.Listing.{active-more, inactive-more, active-none}
 use Rattle.verdicts.specs.Verdicts.{firstOutside}
-use Rattle.verdicts.proofs.Walking.{Walked, walked-first, walked-past, walked-found, walked-done}
+use Rattle.checks.proofs.Walking.{Walked, walked-first, walked-past, walked-found, walked-done}
 use Rattle.ordering.specs.Keys.{entries}
 use Rattle.ordering.proofs.Sorting.{entries-same, entries-snoc}
 use Rattle.stretches.specs.Stretches.{keyOf, keysOf}

@@ -6,7 +6,7 @@ ghost use lib.ListN.{length};
 ghost use Rattle.encoding.specs.Encoding.{refused};
 ghost use Rattle.elements.specs.Machine.{machine};
 ghost use Rattle.elements.specs.Accesses.{VectorSound, StridedSound};
-ghost use Rattle.verdicts.specs.Checking.{Sound};
+ghost use Rattle.checks.specs.Checking.{Sound};
 ghost use Rattle.inspection.specs.Inspection.{inspectedAt, inspectedOf};
 ghost use Rattle.inspection.specs.Steps.{vectorInspected, stridedInspected};
 use elements::StridedAccess;
@@ -115,7 +115,7 @@ pub fn inspect(
 ) -> Inspected
     ensures { λ r. ⌜ r ≡ inspectedOf (machine vb (now (x .entry)) sp (now (z .entry)) (now (p .entry))) word e ⌝ }
 {
-    if !verdicts::length_ok(vb) {
+    if !checks::length_ok(vb) {
         return Inspected::Length;
     }
     if z.len() != 32 * vb {

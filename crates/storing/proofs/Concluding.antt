@@ -10,7 +10,7 @@ use borrow.Author.Tests.{lt-ltb, le-ltb}
 use Rattle.writes.specs.Elements.{Element, written}
 use Rattle.elements.specs.Machine.{Machine}
 use Rattle.verdicts.specs.Verdicts.{patchOf, firstOutside, found, faultOf, doneOf, verdictOf}
-use Rattle.verdicts.specs.Checking.{concluded, Passed}
+use Rattle.checks.specs.Checking.{concluded, Passed}
 use Rattle.verdicts.specs.declared.Flags.{Flags}
 use Rattle.verdicts.specs.declared.Refusal.{Refusal}
 use Rattle.verdicts.specs.declared.Refusal.the-variants.{Fault, NoRoom}

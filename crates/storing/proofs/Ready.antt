@@ -20,8 +20,8 @@ use Rattle.elements.specs.declared.VectorAccess.{VectorAccess}
 use Rattle.ordering.specs.Keys.{entries}
 use Rattle.ordering.proofs.Sorting.{length-entries}
 use Rattle.verdicts.specs.Verdicts.{firstOutside}
-use Rattle.verdicts.proofs.Walking.{inside-all}
-use Rattle.verdicts.proofs.Spans.{bytes-in, bytes-long}
+use Rattle.checks.proofs.Walking.{inside-all}
+use Rattle.checks.proofs.Spans.{bytes-in, bytes-long}
 use Rattle.stretches.specs.Stretches.{Seen, keysOf}
 use Rattle.stretches.proofs.Keying.{length-keys}
 use Rattle.cutting.specs.Cutting.{part, Fits}

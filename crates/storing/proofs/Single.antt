@@ -24,7 +24,7 @@ use Rattle.cutting.proofs.Made.{made-length, made-buffer}
 use Rattle.verdicts.specs.Verdicts.{patchOf, firstOutside}
 use Rattle.verdicts.specs.declared.Refusal.the-variants.{NoRoom}
 use Rattle.verdicts.specs.declared.Verdict.the-variants.{Done, Refused}
-use Rattle.verdicts.proofs.Walking.{inside-all}
+use Rattle.checks.proofs.Walking.{inside-all}
 use Rattle.storing.specs.Steps.{StoredOf}
 use Rattle.storing.proofs.Concluding.{stored-short, stored-done}
 

@@ -10,7 +10,7 @@ use Rattle.ordering.specs.Keys.{numberOf, entries}
 use Rattle.stretches.specs.Stretches.{startOf, Seen, keysOf}
 use Rattle.cutting.specs.Cutting.{part, Fits}
 use Rattle.verdicts.specs.Verdicts.{patchOf, firstOutside}
-use Rattle.verdicts.specs.Checking.{concluded}
+use Rattle.checks.specs.Checking.{concluded}
 use Rattle.verdicts.specs.declared.Verdict.{Verdict}
 use Rattle.storing.specs.Storing.{memoryAfter, bufferAfter}
 use Rattle.storing.specs.declared.strided.Search.{Search}

@@ -4,9 +4,9 @@ mod vectors;
 
 ghost use Rattle.elements.specs.Machine.{machine};
 ghost use Rattle.storing.specs.Storing.{Stored};
+use checks::Checked;
 use strided::store_strided;
 use vectors::store_vector;
-use verdicts::Checked;
 use verdicts::Flags;
 use verdicts::Verdict;
 
@@ -27,7 +27,7 @@ pub fn store(
         ⌜ Stored flags (machine vb (now (x .entry)) sp (now (z .entry)) (now (p .entry))) base (now (memory .entry)) word
         (now (patch .entry)) r (now (memory .exit)) (now (patch .exit)) ⌝ }
 {
-    match verdicts::check(vb, flags, x, sp, z, p, base, memory.len() as u64, word) {
+    match checks::check(vb, flags, x, sp, z, p, base, memory.len() as u64, word) {
         Checked::Refused { refusal } => Verdict::Refused { refusal },
         Checked::Vector { access } => store_vector(access, vb, z, p, base, memory, patch),
         Checked::Strided { access } => store_strided(access, vb, z, base, memory, patch),

@@ -8,7 +8,7 @@ ghost use Rattle.writes.specs.Elements.{Element};
 ghost use Rattle.window.specs.Window.{windowOk};
 ghost use Rattle.elements.specs.Accesses.{VectorSound};
 ghost use Rattle.ordering.specs.Keys.{numberOf, entries, Each};
-ghost use Rattle.verdicts.specs.Checking.{Sound, vectorsIn};
+ghost use Rattle.checks.specs.Checking.{Sound, vectorsIn};
 ghost use Rattle.storing.specs.Steps.{StoredOf, putAll, Placed, Ready};
 use elements::Counts;
 use elements::VectorAccess;

@@ -1,8 +1,3 @@
 pub mod Rows
 pub mod Words
 pub mod Statements
-pub mod Walking
-pub mod Ranging
-pub mod Spans
-pub mod Order
-pub mod Checking

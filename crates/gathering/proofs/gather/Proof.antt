@@ -12,7 +12,7 @@ use Rattle.window.specs.Window.{inWindow}
 use Rattle.window.proofs.Windows.{window-inv}
 use Rattle.elements.specs.Machine.{bitAt}
 use Rattle.elements.specs.Accesses.{offsetBytes, addressFrom, vectorActive, vectorAddress, vectorElement, vectorElements}
-use Rattle.verdicts.proofs.Spans.{whole-in, offset-in, bit-in, below-end, bytes-long, few}
+use Rattle.checks.proofs.Spans.{whole-in, offset-in, bit-in, below-end, bytes-long, few}
 use Rattle.stretches.specs.Stretches.{keyOf}
 use Rattle.gathering.specs.Gathering.{GatheredAs}
 use Rattle.gathering.proofs.Gathering.{Counted, counted-next, Gathering, gathering-first, gathering-next, gathering-out}

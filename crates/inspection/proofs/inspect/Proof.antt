@@ -8,8 +8,8 @@ use Rattle.encoding.proofs.Statements.{known-accepted}
 use Rattle.encoding.specs.declared.Decoded.{Decoded}
 use Rattle.encoding.specs.declared.Decoded.the-variants.{Known, Undefined}
 use Rattle.elements.specs.Machine.{Machine, machine}
-use Rattle.verdicts.specs.Checking.{Sound}
-use Rattle.verdicts.proofs.Order.{Vb, length-sound}
+use Rattle.checks.specs.Checking.{Sound}
+use Rattle.checks.proofs.Order.{Vb, length-sound}
 use Rattle.inspection.proofs.Inspecting.{inspected-length, inspected-z, inspected-p, inspected-decoded}
 use Rattle.inspection.specs.Inspection.{inspectedFor, inspectedOf}
 use borrow.Author.Needs.{needs}

@@ -3,7 +3,7 @@ use mathlib.Core.Path.{refl}
 use Prim.Native.Nat.{ℕ, _+_, _*_, _/_, _%_, _≤_, _<_}
 use native.Mathlib.Omega.{arith}
 use borrow.Author.Needs.{needs}
-use Rattle.verdicts.proofs.Spans.{strided-below, index-in, register-below, register-fits, strided-few}
+use Rattle.checks.proofs.Spans.{strided-below, index-in, register-below, register-fits, strided-few}
 use Rattle.inspection.proofs.Inspecting.{strided-past, strided-found}
 use Rattle.inspection.proofs.inspect_strided.Statement.{statement}
 use Rattle.inspection.proofs.inspect_strided.Tie as tie

@@ -4,7 +4,7 @@ use Prim.Native.Nat.{_+_, _*_, _/_, _≤_}
 use native.Mathlib.Omega.{arith}
 use lib.ListN.{length}
 use Rattle.elements.proofs.Numbers.{register-in, predicate-in, register-long}
-use Rattle.verdicts.proofs.Spans.{whole-in, offset-in, bit-in, below-end}
+use Rattle.checks.proofs.Spans.{whole-in, offset-in, bit-in, below-end}
 use Rattle.inspection.proofs.Inspecting.{vector-past, vector-found}
 use Rattle.inspection.proofs.inspect_vector.Statement.{statement}
 use Rattle.inspection.proofs.inspect_vector.Tie as tie

@@ -6,9 +6,9 @@ use Rattle.elements.specs.Machine.{Machine, machine}
 use Rattle.elements.specs.Accesses.{VectorSound, StridedSound, stridedElements}
 use Rattle.elements.specs.declared.VectorAccess.{VectorAccess}
 use Rattle.elements.specs.declared.StridedAccess.{StridedAccess}
-use Rattle.verdicts.specs.Checking.{vectorsIn, Passed}
-use Rattle.verdicts.specs.declared.Checked.the-variants as Ch
-use Rattle.verdicts.proofs.Checking.{refused-told, vector-told, strided-told}
+use Rattle.checks.specs.Checking.{vectorsIn, Passed}
+use Rattle.checks.specs.declared.Checked.the-variants as Ch
+use Rattle.checks.proofs.Checking.{refused-told, vector-told, strided-told}
 use Rattle.storing.proofs.Concluding.{stored-refused, stored-passed}
 use Rattle.storing.proofs.store.Statement.{statement}
 use Rattle.storing.proofs.store.Tie as tie

@@ -7,8 +7,8 @@ use Rattle.window.proofs.Windows.{window-inv, in-window-inv}
 use Rattle.elements.proofs.Moving.{all-small}
 use Rattle.elements.proofs.Joined.{strided-none}
 use Rattle.verdicts.specs.Verdicts.{firstOutside}
-use Rattle.verdicts.proofs.Ranging.{stretch-inside}
-use Rattle.verdicts.proofs.Spans.{strided-below}
+use Rattle.checks.proofs.Ranging.{stretch-inside}
+use Rattle.checks.proofs.Spans.{strided-below}
 use Rattle.storing.proofs.strided.find_outside.Statement.{statement}
 use Rattle.storing.proofs.strided.find_outside.Tie as tie
 

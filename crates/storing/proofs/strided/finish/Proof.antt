@@ -13,7 +13,7 @@ use Rattle.elements.specs.Accesses.{stridedBytes}
 use Rattle.elements.proofs.Moving.{all-small, active-long}
 use Rattle.stretches.specs.Intervals.{total}
 use Rattle.cutting.specs.Cutting.{spaced}
-use Rattle.verdicts.proofs.Spans.{strided-below}
+use Rattle.checks.proofs.Spans.{strided-below}
 use Rattle.storing.proofs.Single.{bounds, strided-short, strided-done}
 use Rattle.storing.proofs.strided.finish.Statement.{statement}
 use Rattle.storing.proofs.strided.finish.Tie as tie

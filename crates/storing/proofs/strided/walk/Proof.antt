@@ -11,8 +11,8 @@ use Rattle.elements.specs.Accesses.{stridedElement, stridedElements}
 use Rattle.elements.proofs.Moving.{high-small, bytes-long}
 use Rattle.elements.proofs.Joined.{listed}
 use Rattle.verdicts.specs.Verdicts.{firstOutside}
-use Rattle.verdicts.proofs.Ranging.{ranged-first, ranged-in, ranged-out, ranged-done}
-use Rattle.verdicts.proofs.Spans.{window, strided-below}
+use Rattle.checks.proofs.Ranging.{ranged-first, ranged-in, ranged-out, ranged-done}
+use Rattle.checks.proofs.Spans.{window, strided-below}
 use Rattle.storing.proofs.strided.walk.Statement.{statement}
 use Rattle.storing.proofs.strided.walk.Tie as tie
 

@@ -9,8 +9,8 @@ use Rattle.window.specs.LittleEndian.{Bytes}
 use Rattle.writes.specs.Elements.{Element}
 use Rattle.window.proofs.LittleEndian.{bytes-at, bytes-take, bytes-drop}
 use Rattle.elements.specs.Accesses.{VectorSound, vectorElements}
-use Rattle.verdicts.specs.Checking.{vectorsIn}
-use Rattle.verdicts.proofs.Spans.{z-room, z-long, p-room, p-long}
+use Rattle.checks.specs.Checking.{vectorsIn}
+use Rattle.checks.proofs.Spans.{z-room, z-long, p-room, p-long}
 use Rattle.gathering.specs.Gathering.{GatheredAs}
 use Rattle.gathering.specs.declared.Gathered.the-variants as G
 use Rattle.storing.specs.Steps.{Ready}

@@ -1,0 +1,12 @@
+-- The five. Assumes nothing.
+use mathlib.Core.Path.{refl}
+use Rattle.verdicts.specs.Verdicts.{lengthOk}
+use Rattle.checks.proofs.length_ok.Statement.{statement}
+use Rattle.checks.proofs.length_ok.Tie as tie
+
+returns : tie.Need-returns
+unfolding lengthOk
+returns c = refl
+
+pub length-ok-spec : {M : Type 1} → statement M
+length-ok-spec = tie.close (tie.spec returns)
