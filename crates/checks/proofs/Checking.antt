@@ -3,6 +3,7 @@ use mathlib.Core.Path.{_≡_, refl, sym, ap, _∙_, subst}
 use mathlib.Core.Bool.{Bool, true, false, not, cond}
 use mathlib.Core.List.{List}
 use Prim.Native.Nat.{ℕ, _%_, _≤_}
+use native.Mathlib.Omega.{arith}
 use Rattle.encoding.specs.Decoding.{decodeOf}
 use Rattle.encoding.specs.Encoding.{classFor, featureOf, refused}
 use Rattle.encoding.specs.declared.Decoded.the-variants as D
@@ -22,7 +23,7 @@ use Rattle.elements.specs.declared.StridedAccess.{StridedAccess}
 use Rattle.elements.proofs.Shapes.{scatter-in, strided-in, quadword-in}
 use Rattle.elements.proofs.Listing.{scatter-elements, strided-elements, quadword-elements}
 use Rattle.elements.proofs.Soundness.{scatter-sound, strided-sound, quadword-sound}
-use Rattle.verdicts.specs.Verdicts.{elementsFor, flagOn, illegal, onStack, stack, verdictOf}
+use Rattle.verdicts.specs.Verdicts.{elementsFor, flagOn, illegal, onStack, stack, verdictOf, refusalNumber}
 use Rattle.checks.specs.Checking.{Sound, accessFor, vectorsIn, elementsIn, AccessSound, checkedFor, concluded, Passed, CheckedAs}
 use Rattle.verdicts.specs.declared.Flags.{Flags}
 use Rattle.verdicts.specs.declared.Refusal.{Refusal}
@@ -91,15 +92,16 @@ module _ (f : Flags) (m : Machine) (s : Store) (x : Feature) (e : x ≡ featureO
 -- ---- what checking answers
 
 module _ (f : Flags) (m : Machine) (W L word : ℕ) where
-  pub refused-as : (r : Refusal) → ((room : ℕ) → verdictOf f m W L word room ≡ Ver.Refused r) → CheckedAs f m W L word (Refused r)
+  pub refused-as : (r : Refusal) → refusalNumber r ≤ 6 → ((room : ℕ) → verdictOf f m W L word room ≡ Ver.Refused r)
+      → CheckedAs f m W L word (Refused r)
   unfolding CheckedAs
-  refused-as r h = h
+  refused-as r n h = (n, h)
 
   -- and back
   pub refused-told : (c : Checked) (r : Refusal) → CheckedAs f m W L word c → c ≡ Refused r
       → (room : ℕ) → verdictOf f m W L word room ≡ Ver.Refused r
   unfolding CheckedAs
-  refused-told c r h q = subst (CheckedAs f m W L word) q h
+  refused-told c r h q = subst (CheckedAs f m W L word) q h .1
 
   pub vector-told : (c : Checked) (v : VectorAccess) → CheckedAs f m W L word c → c ≡ Vector v
       → VectorSound v (m .vb) × Passed f m W L word (vectorsIn v (m .vb) (m .z) (m .p)) (v .size)
@@ -113,7 +115,7 @@ module _ (f : Flags) (m : Machine) (W L word : ℕ) where
 
   pub undefined-as : ((room : ℕ) → verdictOf f m W L word room ≡ verdictFor f m W L room (decodeOf word)) → D.Undefined ≡ decodeOf word
       → CheckedAs f m W L word (Refused Undefined)
-  undefined-as past d = refused-as Undefined (λ room. past room ∙ ap (verdictFor f m W L room) (sym d))
+  undefined-as past d = refused-as Undefined (omega arith) (λ room. past room ∙ ap (verdictFor f m W L room) (sym d))
 
   module _ (bytes : Bytes (m .z)) (o : Sound (m .vb) (m .z) (m .p)) (w : windowOk W L ≡ true)
       (past : (room : ℕ) → verdictOf f m W L word room ≡ verdictFor f m W L room (decodeOf word)) where
@@ -148,15 +150,15 @@ module _ (f : Flags) (m : Machine) (W L word : ℕ) where
             cond a (Ver.Refused Undefined)
             (cond b (Ver.Refused Illegal) (cond c (Ver.Refused Stack) (concluded W L room (sizeOf (classFor s)) (elements m s))))
 
+        told : {a b c : Bool} → not (flagOn f (featureOf s)) ≡ a → illegal f (featureOf s) ≡ b
+            → stack f (m .sp) (onStack s) (elements m s) ≡ c
+            → (room : ℕ) → verdictOf f m W L word room ≡ by room a b c
+        told p q r room = past room ∙ ap (verdictFor f m W L room) (sym d) ∙ (λ i. by room (p i) (q i) (r i))
+
         go : (a : Bool) → not (flagOn f (featureOf s)) ≡ a → (b : Bool) → illegal f (featureOf s) ≡ b
             → (c : Bool) → stack f (m .sp) (onStack s) (elements m s) ≡ c
             → CheckedAs f m W L word (cond a (Refused Undefined) (cond b (Refused Illegal) (cond c (Refused Stack) (accessFor m s))))
-        go true p b q c r =
-            refused-as Undefined (λ room. past room ∙ ap (verdictFor f m W L room) (sym d) ∙ (λ i. by room (p i) (q i) (r i)))
-        go false p true q c r =
-            refused-as Illegal (λ room. past room ∙ ap (verdictFor f m W L room) (sym d) ∙ (λ i. by room (p i) (q i) (r i)))
-        go false p false q true r =
-            refused-as Stack (λ room. past room ∙ ap (verdictFor f m W L room) (sym d) ∙ (λ i. by room (p i) (q i) (r i)))
-        go false p false q false r =
-            access-as s d (known-accepted word s (sym d))
-            (λ room. past room ∙ ap (verdictFor f m W L room) (sym d) ∙ (λ i. by room (p i) (q i) (r i)))
+        go true p b q c r = refused-as Undefined (omega arith) (told p q r)
+        go false p true q c r = refused-as Illegal (omega arith) (told p q r)
+        go false p false q true r = refused-as Stack (omega arith) (told p q r)
+        go false p false q false r = access-as s d (known-accepted word s (sym d)) (told p q r)

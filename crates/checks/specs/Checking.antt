@@ -18,7 +18,7 @@ use Rattle.elements.specs.Accesses.{VectorSound, StridedSound, vectorElements, 
 use Rattle.elements.specs.Accesses.{quadwordAccess}
 use Rattle.elements.specs.declared.VectorAccess.{VectorAccess}
 use Rattle.verdicts.specs.Verdicts.{elementsFor, patchOf, flagOn, illegal, onStack, stack, firstOutside, found, faultOf}
-use Rattle.verdicts.specs.Verdicts.{doneOf, verdictOf}
+use Rattle.verdicts.specs.Verdicts.{doneOf, verdictOf, refusalNumber}
 use Rattle.verdicts.specs.declared.Flags.{Flags}
 use Rattle.verdicts.specs.declared.Refusal.the-variants.{Undefined, Illegal, Stack, NoRoom}
 use Rattle.verdicts.specs.declared.Verdict.{Verdict}
@@ -75,9 +75,9 @@ pub record Passed (f : Flags) (m : Machine) (W L word : ℕ) (es : List Element)
   pub listed : elementsFor m (decodeOf word) ≡ es
   pub verdict : (room : ℕ) → verdictOf f m W L word room ≡ concluded W L room size es
 
--- what checking answers on flags and machine, for the window of L bytes at W and the word. Which access it answers is left free, but it is
--- sound and its active elements are the store's
+-- what checking answers on flags and machine, for the window of L bytes at W and the word: one of refusals 1 to 6, or an access. Which
+-- access is left free, but it is sound and its active elements are the store's
 unfoldable pub CheckedAs : Flags → Machine → ℕ → ℕ → ℕ → Checked → Type 0
-CheckedAs f m W L word (Refused r) = (room : ℕ) → verdictOf f m W L word room ≡ Ver.Refused r
+CheckedAs f m W L word (Refused r) = (refusalNumber r ≤ 6) × ((room : ℕ) → verdictOf f m W L word room ≡ Ver.Refused r)
 CheckedAs f m W L word (Vector v) = VectorSound v (m .vb) × Passed f m W L word (vectorsIn v (m .vb) (m .z) (m .p)) (v .size)
 CheckedAs f m W L word (Strided s) = StridedSound s (m .vb) × Passed f m W L word (stridedElements s (m .vb) (m .z)) (s .size)

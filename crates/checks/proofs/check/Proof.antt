@@ -29,7 +29,7 @@ returns : tie.Need-returns
 returns c =
     let l = c .before in
     let g = start l .args in
-    refused-as (g .flags) (m (start l)) (g .base) (g .length) (g .word) Length
+    refused-as (g .flags) (m (start l)) (g .base) (g .length) (g .word) Length (omega arith)
     (of-length (g .flags) (m (start l)) (g .base) (g .length) (g .word) (l .length-ok .result) (l .length-ok .ensures) (c .if1 .taken))
 
 mul-if2 : tie.Need-mul-if2
@@ -48,7 +48,7 @@ returns-2 : tie.Need-returns-2
 returns-2 c =
     let l = c .before .before in
     let g = start l .args in
-    refused-as (g .flags) (m (start l)) (g .base) (g .length) (g .word) Registers
+    refused-as (g .flags) (m (start l)) (g .base) (g .length) (g .word) Registers (omega arith)
     (of-registers (g .flags) (m (start l)) (g .base) (g .length) (g .word) (l .length-ok .result) (l .length-ok .ensures)
     (c .before .if1 .left) (c .if2 .taken))
 
@@ -72,7 +72,7 @@ returns-3 c =
     let w = c .before in
     let l = at w in
     let g = start l .args in
-    refused-as (g .flags) (m (start l)) (g .base) (g .length) (g .word) Window
+    refused-as (g .flags) (m (start l)) (g .base) (g .length) (g .word) Window (omega arith)
     (of-window (g .flags) (m (start l)) (g .base) (g .length) (g .word) (l .length-ok .result) (l .length-ok .ensures)
     (w .before .before .if1 .left) (w .before .if2 .left) (w .window-ok .result) (w .window-ok .ensures) (c .if3 .taken))
 
