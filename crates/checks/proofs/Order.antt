@@ -51,7 +51,7 @@ pub never-stack : (f : Flags) (sp : ℕ) (s b : Bool) (x : Element) → b ≡ st
     → false ≡ stack f sp s es
 never-stack f sp s b x e q [] = go s (f .«sp_check») (not (eqb (sp % 16) 0)) (sym e ∙ q)
   where
-    go : (s c d : Bool) → (s && c && d && true) ≡ false → false ≡ (s && c && d && f .«sp_idle»)
+    go : (s c d : Bool) → (s && c && d && true) ≡ false → false ≡ (s && c && d && f .«sp_check_none_active»)
     go false c d k = refl
     go true false d k = refl
     go true true false k = refl

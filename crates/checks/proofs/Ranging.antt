@@ -17,7 +17,7 @@ use Rattle.elements.specs.Accesses.{StridedSound, stridedAddress, stridedElemen
 use Rattle.elements.specs.declared.StridedAccess.{StridedAccess}
 use Rattle.elements.proofs.Moving.{bytes-long}
 use Rattle.elements.proofs.Joined.{listed, strided-listed, strided-none, each-inside}
-use Rattle.verdicts.specs.Verdicts.{isSome, firstOutside}
+use Rattle.verdicts.specs.Verdicts.{someActive, firstOutside}
 
 module _ (el : ℕ → Element) (W L : ℕ) where
   listed-more : (high e : ℕ) → e < high → listed el (high - e) e ≡ el e ∷ listed el (high - (e + 1)) (e + 1)
@@ -44,11 +44,11 @@ module _ (s : StridedAccess) (vb : ℕ) (o : StridedSound s vb) (z : List ℕ) w
   abbrev el : ℕ → Element
   el = stridedElement s vb z
 
-  pub some-is : ltb (s .low) (s .high) ≡ isSome (stridedElements s vb z)
+  pub some-is : ltb (s .low) (s .high) ≡ someActive (stridedElements s vb z)
   some-is =
       two (s .low) (s .high)
-      (λ l. lt-ltb (s .low) (s .high) l ∙ sym (ap isSome (strided-listed s vb o z ∙ listed-more el 0 0 (s .high) (s .low) l)))
-      (λ l. le-ltb (s .low) (s .high) l ∙ sym (ap isSome (strided-none s vb o z l)))
+      (λ l. lt-ltb (s .low) (s .high) l ∙ sym (ap someActive (strided-listed s vb o z ∙ listed-more el 0 0 (s .high) (s .low) l)))
+      (λ l. le-ltb (s .low) (s .high) l ∙ sym (ap someActive (strided-none s vb o z l)))
 
   module _ (W L : ℕ) where
     -- the active elements below e lie in the window

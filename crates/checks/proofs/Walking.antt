@@ -13,7 +13,7 @@ use Rattle.window.proofs.Order.{absurdly}
 use Rattle.window.proofs.Windows.{in-window-inv}
 use Rattle.elements.specs.Elements.{actives}
 use Rattle.elements.proofs.Listing.{active-more, inactive-more, active-none}
-use Rattle.verdicts.specs.Verdicts.{isSome, firstOutside}
+use Rattle.verdicts.specs.Verdicts.{someActive, firstOutside}
 
 module _ (on : ℕ → Bool) (el : ℕ → Element) (n : ℕ) where
   -- what a question on the list of the active elements says of those from e on is what it says of all
@@ -69,11 +69,11 @@ module _ (on : ℕ → Bool) (el : ℕ → Element) (n : ℕ) where
 
   -- ---- no element below e is active
 
-  pub sought-found : (e : ℕ) → e < n → Walked isSome e → on e ≡ true → true ≡ isSome (actives on el n 0)
-  sought-found e h s t = sym (ap isSome (active-more on el n e h t)) ∙ s .same
+  pub sought-found : (e : ℕ) → e < n → Walked someActive e → on e ≡ true → true ≡ someActive (actives on el n 0)
+  sought-found e h s t = sym (ap someActive (active-more on el n e h t)) ∙ s .same
 
-  pub sought-none : (e : ℕ) → n ≤ e → Walked isSome e → false ≡ isSome (actives on el n 0)
-  sought-none e h s = sym (ap isSome (active-none on el n e h)) ∙ s .same
+  pub sought-none : (e : ℕ) → n ≤ e → Walked someActive e → false ≡ someActive (actives on el n 0)
+  sought-none e h s = sym (ap someActive (active-none on el n e h)) ∙ s .same
 
 -- ---- no element outside
 

@@ -6,7 +6,7 @@ ghost use mathlib.Core.Bool.{not};
 ghost use mathlib.Core.List.{List};
 ghost use Rattle.writes.specs.Elements.{Element};
 ghost use Rattle.elements.specs.Machine.{machine};
-ghost use Rattle.verdicts.specs.Verdicts.{lengthOk, flagOn, illegal, isSome, stack};
+ghost use Rattle.verdicts.specs.Verdicts.{lengthOk, flagOn, illegal, someActive, stack};
 ghost use Rattle.checks.specs.Checking.{CheckedAs};
 use elements::StridedAccess;
 use elements::VectorAccess;
@@ -52,9 +52,9 @@ fn is_illegal(flags: Flags, feature: Feature) -> bool
 
 // Whether the stack check refuses a store, by whether its base is SP and it has active elements.
 fn is_stack(flags: Flags, sp: u64, on_stack: bool, some: bool) -> bool
-    ensures { λ r. ⌜ ((es : List Element) → some ≡ isSome es → r ≡ stack flags sp «on_stack» es) ⌝ }
+    ensures { λ r. ⌜ ((es : List Element) → some ≡ someActive es → r ≡ stack flags sp «on_stack» es) ⌝ }
 {
-    on_stack & flags.sp_check & (sp % 16 != 0) & (some | flags.sp_idle)
+    on_stack & flags.sp_check & (sp % 16 != 0) & (some | flags.sp_check_none_active)
 }
 
 // Checks 1 to 6 for the store that a word is, with a window of `length` bytes at `base`.

@@ -8,7 +8,7 @@ ghost use Rattle.encoding.specs.Encoding.{featureOf, refused};
 ghost use Rattle.window.specs.LittleEndian.{Bytes};
 ghost use Rattle.elements.specs.Machine.{machine};
 ghost use Rattle.elements.specs.Accesses.{VectorSound, vectorElements, StridedSound, stridedElements};
-ghost use Rattle.verdicts.specs.Verdicts.{onStack, isSome, stack};
+ghost use Rattle.verdicts.specs.Verdicts.{onStack, someActive, stack};
 ghost use Rattle.checks.specs.Checking.{Sound, AccessSound, accessFor, elementsIn, checkedFor};
 use super::Checked;
 use super::is_illegal;
@@ -25,7 +25,7 @@ use verdicts::Refusal;
 fn some_vector(v: VectorAccess, vb: usize, governing: &[u8]) -> bool
     requires { ⌜ VectorSound v vb ⌝ }
     requires { ⌜ length (now governing) ≡ vb / 8 ⌝ }
-    ensures { λ r. ⌜ ((offsets stored : List ℕ) → r ≡ isSome (vectorElements v offsets (now (governing .entry)) stored)) ⌝ }
+    ensures { λ r. ⌜ ((offsets stored : List ℕ) → r ≡ someActive (vectorElements v offsets (now (governing .entry)) stored)) ⌝ }
 {
     let count = v.count;
     let mut e: usize = 0;

@@ -11,7 +11,7 @@ fn flags() -> Flags {
         streaming: true,
         fa64: true,
         sp_check: false,
-        sp_idle: false,
+        sp_check_none_active: false,
     }
 }
 

@@ -63,10 +63,28 @@ full = on zeros 0x08 0x80
 
 -- SVE alone, and streaming with SME2 alone
 abbrev pub plain : Flags
-plain = record { sve = true; sme2 = false; sve2p1 = false; streaming = false; fa64 = false; «sp_check» = false; «sp_idle» = false }
+plain =
+    record {
+      sve = true;
+      sme2 = false;
+      sve2p1 = false;
+      streaming = false;
+      fa64 = false;
+      «sp_check» = false;
+      «sp_check_none_active» = false;
+    }
 
 abbrev pub streaming : Flags
-streaming = record { sve = false; sme2 = true; sve2p1 = false; streaming = true; fa64 = false; «sp_check» = false; «sp_idle» = false }
+streaming =
+    record {
+      sve = false;
+      sme2 = true;
+      sve2p1 = false;
+      streaming = true;
+      fa64 = false;
+      «sp_check» = false;
+      «sp_check_none_active» = false;
+    }
 
 -- an offset element with low half FFFFFFF8h, and one that is 2000000000000001h
 abbrev pub low : List ℕ

@@ -18,12 +18,12 @@ flagsOf n =
       streaming = eqb (n / 8 % 2) 1;
       fa64 = eqb (n / 16 % 2) 1;
       «sp_check» = eqb (n / 32 % 2) 1;
-      «sp_idle» = eqb (n / 64 % 2) 1;
+      «sp_check_none_active» = eqb (n / 64 % 2) 1;
     }
 
 -- a machine's flags in document 01's order
 abbrev pub flagsInOrder : Flags → List Bool
-flagsInOrder f = f .sve ∷ f .sme2 ∷ f .sve2p1 ∷ f .streaming ∷ f .fa64 ∷ f .«sp_check» ∷ f .«sp_idle» ∷ []
+flagsInOrder f = f .sve ∷ f .sme2 ∷ f .sve2p1 ∷ f .streaming ∷ f .fa64 ∷ f .«sp_check» ∷ f .«sp_check_none_active» ∷ []
 
 -- they are the bits from 0 to 6
 abbrev pub FlagsAreBits : Type 0

@@ -17,7 +17,7 @@ pub fn flags_of(n: u64) -> Flags
         streaming: n / 8 % 2 == 1,
         fa64: n / 16 % 2 == 1,
         sp_check: n / 32 % 2 == 1,
-        sp_idle: n / 64 % 2 == 1,
+        sp_check_none_active: n / 64 % 2 == 1,
     }
 }
 

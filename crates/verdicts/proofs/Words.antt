@@ -19,7 +19,8 @@ use Rattle.window.proofs.Order.{two, absurdly, not-both, both, told}
 use Rattle.window.proofs.Windows.{window-true, window-false, in-window-inv}
 use Rattle.elements.specs.Machine.{Machine}
 use Rattle.elements.specs.Elements.{elements}
-use Rattle.verdicts.specs.Verdicts.{elementsFor, lengthOk, registersOk, undefined, illegalFor, isSome, stackFor, firstOutside, found}
+use Rattle.verdicts.specs.Verdicts.{elementsFor, lengthOk, registersOk, undefined, illegalFor, someActive, stackFor}
+use Rattle.verdicts.specs.Verdicts.{firstOutside, found}
 use Rattle.verdicts.specs.Statements.{Listed, here, there, OneOfFive, NoClassOrOff, NotInThisMode, BasedOnSp}
 use Rattle.verdicts.specs.declared.Flags.{Flags}
 
@@ -99,20 +100,20 @@ none-listed : {X : Type 0} (x : Element) (es : List Element) → es ≡ [] → L
 none-listed x (y ∷ es) e l = absurd (omega (arith, ap length e))
 
 -- an active element or the second SP flag
-some-or-idle : (es : List Element) (i : Bool) → (isSome es || i ≡ true) ↔ (((x : Element) × Listed x es) ⊎ (i ≡ true))
-some-or-idle [] i = ((λ e. inr e), ⊎-elim (λ x. none-listed (x .0) [] refl (x .1)) (λ e. e))
-some-or-idle (x ∷ es) i = ((λ e. inl (x, here)), (λ o. refl))
+some-or-flag : (es : List Element) (i : Bool) → (someActive es || i ≡ true) ↔ (((x : Element) × Listed x es) ⊎ (i ≡ true))
+some-or-flag [] i = ((λ e. inr e), ⊎-elim (λ x. none-listed (x .0) [] refl (x .1)) (λ e. e))
+some-or-flag (x ∷ es) i = ((λ e. inl (x, here)), (λ o. refl))
 
 -- SP is checked, where the base register is SP by a test r
 checked : {R : Type 0} (f : Flags) (sp : ℕ) (r : Bool) (es : List Element) → (r ≡ true) ↔ R
-    → (r && f .«sp_check» && not (eqb (sp % 16) 0) && (isSome es || f .«sp_idle») ≡ true)
-    ↔ (R × (f .«sp_check» ≡ true) × (sp % 16 ≡ 0 → ⊥) × (((x : Element) × Listed x es) ⊎ (f .«sp_idle» ≡ true)))
+    → (r && f .«sp_check» && not (eqb (sp % 16) 0) && (someActive es || f .«sp_check_none_active») ≡ true)
+    ↔ (R × (f .«sp_check» ≡ true) × (sp % 16 ≡ 0 → ⊥) × (((x : Element) × Listed x es) ⊎ (f .«sp_check_none_active» ≡ true)))
 checked f sp r es t =
     let c = f .«sp_check» in
     let n = not (eqb (sp % 16) 0) in
-    let o = isSome es || f .«sp_idle» in
+    let o = someActive es || f .«sp_check_none_active» in
     let k = denied (eqb (sp % 16) 0) (eqb-true (sp % 16) 0) (eq-eqb (sp % 16) 0) in
-    let i = some-or-idle es (f .«sp_idle») in (
+    let i = some-or-flag es (f .«sp_check_none_active») in (
       (λ e. let b = told r (c ∷ n ∷ o ∷ []) e in (t .0 (b .0), b .1 .0, k .0 (b .1 .1 .0), i .0 (b .1 .1 .1 .0))),
       (λ q. all-true r c n o (t .1 (q .0)) (q .1) (k .1 (q .2)) (i .1 (q .3))),
     )
@@ -125,7 +126,7 @@ pub stack-given : (f : Flags) (m : Machine) (d : Decoded)
     ↔ (BasedOnSp d
     × (f .«sp_check» ≡ true)
     × (m .sp % 16 ≡ 0 → ⊥)
-    × (((x : Element) × Listed x (elementsFor m d)) ⊎ (f .«sp_idle» ≡ true)))
+    × (((x : Element) × Listed x (elementsFor m d)) ⊎ (f .«sp_check_none_active» ≡ true)))
 stack-given f m D.Undefined = (never, (λ x. absurd (x .0)))
 stack-given f m (D.Known (Scatter g)) =
     checked f (m .sp) (eqb (g .rn) 31) (elements m (Scatter g)) (eqb-true (g .rn) 31, eq-eqb (g .rn) 31)

@@ -112,7 +112,7 @@ pub record GivenWhen (f : Flags) (m : Machine) (W L : ℕ) (d : Decoded) (room :
       ↔ (BasedOnSp d
       × (f .«sp_check» ≡ true)
       × (m .sp % 16 ≡ 0 → ⊥)
-      × (((x : Element) × Listed x (elementsFor m d)) ⊎ (f .«sp_idle» ≡ true)))
+      × (((x : Element) × Listed x (elementsFor m d)) ⊎ (f .«sp_check_none_active» ≡ true)))
   -- "some active element has a byte outside the window", that is, doesn't lie in it
   pub fault : Given 7 (table f m W L d room)
       ↔ ((x : Element) × Listed x (elementsFor m d) × (inWindow W L (x .address) (length (x .bytes)) ≡ false))

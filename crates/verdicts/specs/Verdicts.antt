@@ -78,12 +78,13 @@ onStack (Scatter g) = eqb (g .rn) 31
 onStack (Strided g) = eqb (g .rn) 31
 onStack (Quadword g) = false
 
-abbrev pub isSome : List Element → Bool
-isSome [] = false
-isSome (x ∷ xs) = true
+-- of the list of the active ones
+abbrev pub someActive : List Element → Bool
+someActive [] = false
+someActive (x ∷ xs) = true
 
 abbrev pub stack : Flags → ℕ → Bool → List Element → Bool
-stack f sp s es = s && f .«sp_check» && not (eqb (sp % 16) 0) && (isSome es || f .«sp_idle»)
+stack f sp s es = s && f .«sp_check» && not (eqb (sp % 16) 0) && (someActive es || f .«sp_check_none_active»)
 
 abbrev pub stackFor : Flags → Machine → Decoded → Bool
 stackFor f m D.Undefined = false

@@ -7,7 +7,7 @@ pub struct Flags {
     pub fa64: bool,
     pub sp_check: bool,
     // SP is checked with nothing active too.
-    pub sp_idle: bool,
+    pub sp_check_none_active: bool,
 }
 
 // Document 01's refusals 1 to 8.

@@ -9,7 +9,7 @@ use Rattle.checks.proofs.is_stack.Tie as tie
 returns : tie.Need-returns
 returns c =
     let a = c .before .before .args in
-    λ xs e. ap (λ (b : Bool). a .on-stack && a .flags .«sp_check» && not (eqb (a .sp % 16) 0) && (b || a .flags .«sp_idle»)) e
+    λ xs e. ap (λ (b : Bool). a .on-stack && a .flags .«sp_check» && not (eqb (a .sp % 16) 0) && (b || a .flags .«sp_check_none_active»)) e
 
 pub is-stack-spec : {M : Type 1} → statement M
 is-stack-spec = tie.close (tie.spec returns)

@@ -4,7 +4,7 @@ use mathlib.Core.List.{List}
 use Prim.Native.Nat.{ℕ, _-_, _*_, _/_, _≤_, _<_}
 use native.Mathlib.Omega.{arith}
 use Rattle.elements.specs.Accesses.{vectorActive, vectorElement, vectorElements}
-use Rattle.verdicts.specs.Verdicts.{isSome}
+use Rattle.verdicts.specs.Verdicts.{someActive}
 use Rattle.checks.proofs.Walking.{Walked, walked-first, walked-off, sought-found, sought-none}
 use Rattle.checks.proofs.Spans.{bit-in, below-end, few}
 use Rattle.checks.proofs.stores.some_vector.Statement.{statement}
@@ -12,7 +12,8 @@ use Rattle.checks.proofs.stores.some_vector.Tie as tie
 
 abbrev Inv-loop : tie.InvT-loop
 Inv-loop v vb governing count e₀ e =
-    (e ≤ v .count) × ((offsets stored : List ℕ) → Walked (vectorActive v governing) (vectorElement v offsets stored) (v .count) isSome e)
+    (e ≤ v .count)
+    × ((offsets stored : List ℕ) → Walked (vectorActive v governing) (vectorElement v offsets stored) (v .count) someActive e)
 
 abbrev μ-loop : tie.MeasureT-loop
 μ-loop v vb governing count e₀ e = count - e
@@ -22,7 +23,7 @@ loop-holds c =
     let g = c .before .args in (
       omega arith,
       λ offsets stored. walked-first (vectorActive (g .v) (g .governing .now)) (vectorElement (g .v) offsets stored)
-          (g .v .count) isSome,
+          (g .v .count) someActive,
     )
 
 vector-active-requires : tie.Need-vector-active-requires Inv-loop μ-loop
@@ -57,7 +58,7 @@ loop-again c =
     let l = c .before .before .before .loop in (
       omega arith,
       λ offsets stored.
-          walked-off (vectorActive (g .v) (g .governing .now)) (vectorElement (g .v) offsets stored) (g .v .count) isSome (l .e)
+          walked-off (vectorActive (g .v) (g .governing .now)) (vectorElement (g .v) offsets stored) (g .v .count) someActive (l .e)
           (c .before .before .loop-test .taken)
           (l .inv .1 offsets stored) (sym (c .before .vector-active .ensures) ∙ c .if1 .left),
     )
