@@ -5,7 +5,7 @@ use native.Mathlib.Omega.{arith}
 use mathlib.Core.Bool.{Bool, true, false, not, _&&_}
 use lib.Dec.{leb}
 use borrow.Author.Tests.{le-leb, leb-true, leb-false}
-use Rattle.window.specs.Window.{windowOk, inWindow}
+use Rattle.window.specs.Window.{windowOk, inWindow, offsetIn}
 use Rattle.window.proofs.Order.{both}
 
 -- two comparisons that both hold, and that don't
@@ -48,19 +48,18 @@ pub not-in-window : (W L s n : ℕ) → ((W ≤ s) × (s + n ≤ W + L) → ⊥)
 unfolding inWindow
 not-in-window W L s n h = not-within W s (s + n) (W + L) h
 
--- an offset that leaves room for n bytes is below the limit; one that wraps is not. The offset p is the address s less W, modulo 2^64.
-module _ (W L n s p limit : ℕ) (ok : windowOk W L ≡ true) (some : 1 ≤ n) (is : limit ≡ L + 1 - n) (small : s < 2 ^ 64)
-    (low : p < 2 ^ 64) (wraps : (p + W) % 2 ^ 64 ≡ s) where
-  pub past-limit : leb limit p ≡ not (inWindow W L s n)
-  past-limit = go (leb limit p) refl
+-- an offset that leaves room for n bytes is below the limit; one that wraps is not
+module _ (W L n s limit : ℕ) (ok : windowOk W L ≡ true) (some : 1 ≤ n) (is : limit ≡ L + 1 - n) (small : s < 2 ^ 64) where
+  pub past-limit : leb limit (offsetIn W s) ≡ not (inWindow W L s n)
+  past-limit = go (leb limit (offsetIn W s)) refl
     where
       top : W + L ≤ 2 ^ 64
       top = window-inv W L ok .1
 
-      go : (t : Bool) → leb limit p ≡ t → t ≡ not (inWindow W L s n)
+      go : (t : Bool) → leb limit (offsetIn W s) ≡ t → t ≡ not (inWindow W L s n)
       go true e =
-          let h : limit ≤ p = leb-true limit p e in
+          let h : limit ≤ offsetIn W s = leb-true limit (offsetIn W s) e in
           sym (ap not (not-in-window W L s n (λ k. omega (arith, top))))
       go false e =
-          let h : p < limit = leb-false limit p e in
+          let h : offsetIn W s < limit = leb-false limit (offsetIn W s) e in
           sym (ap not (in-window W L s n (omega (arith, top)) (omega (arith, top))))

@@ -1,11 +1,11 @@
 // Little-endian numbers in lent bytes, bytes copied, and the window's tests.
 ghost use mathlib.Core.Path.{_≡_};
-ghost use mathlib.Core.Bool.{true, not};
-ghost use Prim.Native.Nat.{ℕ, _+_, _-_, _^_, _≤_, _<_};
+ghost use Prim.Native.Nat.{_+_, _-_, _^_, _≤_, _<_};
+ghost use lib.Dec.{leb};
 ghost use lib.ListN.{length, take, drop};
 ghost use Rattle.window.specs.LittleEndian.{leVal, leBytes};
 ghost use Rattle.window.specs.Overwriting.{overwritten};
-ghost use Rattle.window.specs.Window.{windowOk, inWindow};
+ghost use Rattle.window.specs.Window.{windowOk, inWindow, offsetIn};
 
 // A byte as a word.
 pub fn wide(x: u8) -> u64
@@ -226,9 +226,10 @@ pub fn limit_of(room: u64, n: u64) -> u64
     past - n
 }
 
-// Whether the bytes from `start` on don't lie in the window, by that limit: one comparison, since an offset that wraps is large.
+// Whether an address is at the limit or past it, counted from the window's start. With the limit of `limit_of` that says that the bytes
+// don't lie in the window: one comparison, since an offset that wraps is large.
 pub fn is_past(base: u64, limit: u64, start: u64) -> bool
-    ensures { λ r. ⌜ ((L n : ℕ) → windowOk base L ≡ true → 1 ≤ n → limit ≡ L + 1 - n → r ≡ not (inWindow base L start n)) ⌝ }
+    ensures { λ r. ⌜ r ≡ leb limit (offsetIn base start) ⌝ }
 {
     limit <= std::num::wrapping_sub_u64(start, base)
 }

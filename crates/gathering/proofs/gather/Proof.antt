@@ -9,7 +9,7 @@ use lib.ListN.{length}
 use borrow.Author.Needs.{needs}
 use Rattle.encoding.specs.declared.Extension.{Extension}
 use Rattle.window.specs.Window.{inWindow}
-use Rattle.window.proofs.Windows.{window-inv}
+use Rattle.window.proofs.Windows.{window-inv, past-limit}
 use Rattle.elements.specs.Machine.{bitAt}
 use Rattle.elements.specs.Accesses.{offsetBytes, addressFrom, vectorActive, vectorAddress, vectorElement, vectorElements}
 use Rattle.checks.proofs.Spans.{whole-in, offset-in, bit-in, below-end, bytes-long, few}
@@ -67,8 +67,10 @@ unfolding vectorElement
 past c stored q =
     let a = st c .args in
     let p = st c .pre in
-    c .is-past .ensures (a .room) (a .v .size) (p .1 .2) (p .0 .0 .some)
-    (turn c .before .before .limit-of .ensures ∙ ap (λ (z : ℕ). a .room + 1 - z) (p .0 .3))
+    let d = c .before .before .before .address-from in
+    c .is-past .ensures
+    ∙ past-limit (a .base) (a .room) (a .v .size) (d .result) _ (p .1 .2) (p .0 .0 .some)
+    (turn c .before .before .limit-of .ensures ∙ ap (λ (z : ℕ). a .room + 1 - z) (p .0 .3)) (omega arith)
     ∙ ap₂ (λ (x n : ℕ). not (inWindow (a .base) (a .room) x n)) (address c)
     (sym (bytes-long (a .v) (length (a .offsets .now)) (p .0 .0) (turn c .before .loop .e) (turn c .loop-test .taken)
     (a .offsets .now) stored q))
