@@ -11,7 +11,7 @@ use Rattle.verdicts.specs.declared.Refusal.the-variants.{Length, Registers, Win
 use Rattle.verdicts.specs.declared.Verdict.{Verdict}
 use Rattle.verdicts.specs.declared.Verdict.the-variants.{Done, Refused}
 use Rattle.verdicts.proofs.Statements.{table-numbered, table-in-order, table-given-when}
-use Rattle.storing.specs.Storing.{numbers}
+use Rattle.outcomes.specs.Storing.{numbers}
 use Rattle.demands.specs.Demand2.{StoringReturns, Demand2}
 use Rattle.demands.proofs.Sources.{element-bytes}
 use Rattle.demands.proofs.Storing.{lists-the-active, in-ascending-order, byte-by-byte, counts-of-done}

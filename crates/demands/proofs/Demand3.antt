@@ -27,7 +27,7 @@ use Rattle.verdicts.specs.declared.Verdict.{Verdict}
 use Rattle.verdicts.specs.declared.Verdict.the-variants.{Done}
 use Rattle.verdicts.proofs.Rows.{none-done, decides-given, decides-before, before-decides, none-parted, none-joined}
 use Rattle.verdicts.proofs.Statements.{table-given-when}
-use Rattle.storing.specs.Storing.{memoryAfter, Stored}
+use Rattle.outcomes.specs.Storing.{memoryAfter, Stored}
 use Rattle.patch.specs.Answers.{appliedNumber}
 use Rattle.patch.specs.Applying.{AppliedTo}
 use Rattle.patch.specs.declared.Applied.the-variants as A

@@ -35,7 +35,7 @@ use Rattle.verdicts.specs.declared.Verdict.the-variants.{Done, Refused}
 use Rattle.verdicts.proofs.Rows.{none-done, decides-given, decides-before, before-decides, before-decided, none-parted}
 use Rattle.verdicts.proofs.Words.{outside-found, none-found}
 use Rattle.verdicts.proofs.Statements.{first-given-decides, table-numbered, table-given-when}
-use Rattle.storing.specs.Storing.{memoryAfter, bufferAfter, Stored}
+use Rattle.outcomes.specs.Storing.{memoryAfter, bufferAfter, Stored}
 use Rattle.demands.specs.Demand1.{OneOutcome}
 use Rattle.demands.specs.Demand2.{ListsTheActive, Rising, InAscendingOrder, ByteByByte, CountsOfDone}
 use Rattle.demands.specs.Demand2.{tableFor, StoringDecided, FaultGiven, liesIn, FaultNamesTheLowest}

@@ -31,7 +31,7 @@ use Rattle.verdicts.specs.declared.Flags.{Flags}
 use Rattle.verdicts.specs.declared.Refusal.the-variants.{Fault}
 use Rattle.verdicts.specs.declared.Verdict.{Verdict}
 use Rattle.verdicts.specs.declared.Verdict.the-variants.{Done, Refused}
-use Rattle.storing.specs.Storing.{Stored, numbers}
+use Rattle.outcomes.specs.Storing.{Stored, numbers}
 use Rattle.patch.specs.Answers.{appliedNumber, appliedNumbers, judgedNumber, judgedNumbers}
 use Rattle.patch.specs.Applying.{AppliedTo}
 use Rattle.patch.specs.Statements.{Encodes}

@@ -15,7 +15,7 @@ use Rattle.verdicts.specs.Verdicts.{elementsFor, sizeFor, patchOf, number}
 use Rattle.verdicts.specs.declared.Flags.{Flags}
 use Rattle.verdicts.specs.declared.Verdict.{Verdict}
 use Rattle.verdicts.specs.declared.Verdict.the-variants.{Done, Refused}
-use Rattle.storing.specs.Storing.{bufferAfter, Stored}
+use Rattle.outcomes.specs.Storing.{bufferAfter, Stored}
 use Rattle.patch.specs.Answers.{appliedNumber}
 use Rattle.patch.specs.Applying.{AppliedTo}
 use Rattle.patch.specs.declared.Applied.{Applied}

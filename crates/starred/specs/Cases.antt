@@ -19,7 +19,7 @@ use Rattle.verdicts.specs.declared.Flags.{Flags}
 use Rattle.verdicts.specs.declared.Refusal.the-variants.{Undefined, Fault}
 use Rattle.verdicts.specs.declared.Verdict.{Verdict}
 use Rattle.verdicts.specs.declared.Verdict.the-variants.{Done, Refused}
-use Rattle.storing.specs.Storing.{memoryAfter}
+use Rattle.outcomes.specs.Storing.{memoryAfter}
 
 -- ---- the machines
 

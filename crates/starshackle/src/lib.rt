@@ -1,7 +1,6 @@
 // The interface for C and Rust: thin functions over the proved crates. The result is the verdict's number; other numbers go into
 // an array that the caller lends.
 mod inspecting;
-mod numbers;
 
 ghost use mathlib.Core.Path.{_≡_};
 ghost use Rattle.encoding.specs.Answers.{decodedNumber, decodedNumbers, encodedNumber};
@@ -13,8 +12,9 @@ ghost use Rattle.patch.specs.Judging.{judged};
 ghost use Rattle.codec.specs.Codec.{encodeGiven, encodedAnswers};
 ghost use Rattle.patch.specs.Applying.{AppliedTo};
 ghost use Rattle.verdicts.specs.Verdicts.{number};
-ghost use Rattle.storing.specs.Storing.{Stored, numbers};
-ghost use Rattle.starshackle.specs.Interface.{flagsOf, Answers};
+ghost use Rattle.outcomes.specs.Storing.{Stored, numbers};
+ghost use Rattle.numbers.specs.Flags.{flagsOf};
+ghost use Rattle.starshackle.specs.Interface.{Answers};
 use encoding::Decoded;
 use encoding::Encoded;
 use numbers::answers_of;

@@ -1,12 +1,7 @@
 // The merged call: checks 1 to 7 and 8 in that order, then memory and patch buffer are written together.
-mod strided;
-mod vectors;
-
 ghost use Rattle.elements.specs.Machine.{machine};
-ghost use Rattle.storing.specs.Storing.{Stored};
+ghost use Rattle.outcomes.specs.Storing.{Stored};
 use checks::Checked;
-use strided::store_strided;
-use vectors::store_vector;
 use verdicts::Flags;
 use verdicts::Verdict;
 
@@ -29,7 +24,7 @@ pub fn store(
 {
     match checks::check(vb, flags, x, sp, z, p, base, memory.len() as u64, word) {
         Checked::Refused { refusal } => Verdict::Refused { refusal },
-        Checked::Vector { access } => store_vector(access, vb, z, p, base, memory, patch),
-        Checked::Strided { access } => store_strided(access, vb, z, base, memory, patch),
+        Checked::Vector { access } => vectors::store_vector(access, vb, z, p, base, memory, patch),
+        Checked::Strided { access } => strided::store_strided(access, vb, z, base, memory, patch),
     }
 }

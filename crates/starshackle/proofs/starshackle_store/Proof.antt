@@ -1,7 +1,7 @@
 -- `starshackle_store`: what the merged call answers, as numbers. Assumes nothing.
 use mathlib.Core.Path.{_≡_, subst}
 use Rattle.verdicts.specs.declared.Flags.{Flags}
-use Rattle.storing.specs.Storing.{Stored}
+use Rattle.outcomes.specs.Storing.{Stored}
 use borrow.Author.Needs.{needs}
 use Rattle.starshackle.proofs.starshackle_store.Statement.{statement}
 use Rattle.starshackle.proofs.starshackle_store.Tie as tie

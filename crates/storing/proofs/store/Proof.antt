@@ -9,7 +9,7 @@ use Rattle.elements.specs.declared.StridedAccess.{StridedAccess}
 use Rattle.checks.specs.Checking.{vectorsIn, Passed}
 use Rattle.checks.specs.declared.Checked.the-variants as Ch
 use Rattle.checks.proofs.Checking.{refused-told, vector-told, strided-told}
-use Rattle.storing.proofs.Concluding.{stored-refused, stored-passed}
+use Rattle.outcomes.proofs.Concluding.{stored-refused, stored-passed}
 use Rattle.storing.proofs.store.Statement.{statement}
 use Rattle.storing.proofs.store.Tie as tie
 

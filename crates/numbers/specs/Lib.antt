@@ -1,0 +1,2 @@
+-- ---- what the customer must believe: flags as bits of a number
+pub mod Flags

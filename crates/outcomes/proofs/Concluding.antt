@@ -1,0 +1,82 @@
+-- From verdict 7 on: what is answered, and what is left of memory and buffer. Assumes nothing.
+use mathlib.Core.Path.{_≡_, refl, sym, ap, ap₂, _∙_, subst}
+use mathlib.Core.Bool.{Bool, cond}
+use mathlib.Core.List.{List, _++_}
+use mathlib.Core.Option.{Option, none, some}
+use Prim.Native.Nat.{ℕ, _*_, _≤_, _<_}
+use lib.Dec.{ltb}
+use lib.ListN.{length, drop}
+use borrow.Author.Tests.{lt-ltb, le-ltb}
+use Rattle.writes.specs.Elements.{Element, written}
+use Rattle.elements.specs.Machine.{Machine}
+use Rattle.verdicts.specs.Verdicts.{patchOf, firstOutside, found, faultOf, doneOf, verdictOf}
+use Rattle.checks.specs.Checking.{concluded, Passed}
+use Rattle.verdicts.specs.declared.Flags.{Flags}
+use Rattle.verdicts.specs.declared.Refusal.{Refusal}
+use Rattle.verdicts.specs.declared.Refusal.the-variants.{Fault, NoRoom}
+use Rattle.verdicts.specs.declared.Verdict.{Verdict}
+use Rattle.verdicts.specs.declared.Verdict.the-variants.{Done, Refused}
+use Rattle.outcomes.specs.Storing.{memoryAfter, bufferAfter, Stored}
+use Rattle.outcomes.specs.Steps.{StoredOf}
+
+module _ (W size : ℕ) (mem buffer : List ℕ) (es : List Element) where
+  -- by what the search found and whether there is room
+  abbrev by : Option Element → Bool → Verdict
+  by o short = cond (found o) (Refused (faultOf o)) (cond short (Refused NoRoom) (doneOf es size))
+
+  abbrev short : Bool
+  short = ltb (length buffer) (length (patchOf es))
+
+  pub stored-fault : (e a : ℕ) (x : Element) → firstOutside W (length mem) es ≡ some x → e ≡ x .number → a ≡ x .address
+      → StoredOf W size mem buffer es (Refused (Fault e a)) mem buffer
+  stored-fault e a x q en ea =
+      record {
+        answer = ap Refused (ap₂ Fault en ea) ∙ sym (ap (λ (o : Option Element). by o short) q);
+        memory = refl;
+        patch = refl;
+      }
+
+  module _ (q : firstOutside W (length mem) es ≡ none) where
+    past-7 : concluded W (length mem) (length buffer) size es ≡ by none short
+    past-7 = ap (λ (o : Option Element). by o short) q
+
+    pub stored-short : length buffer < length (patchOf es) → StoredOf W size mem buffer es (Refused NoRoom) mem buffer
+    stored-short h =
+        record {
+          answer = sym (past-7 ∙ ap (by none) (lt-ltb (length buffer) (length (patchOf es)) h));
+          memory = refl;
+          patch = refl;
+        }
+
+    pub stored-done : (n b k : ℕ) (mem′ buffer′ : List ℕ) → n ≡ length es → b ≡ length es * size → k ≡ length (patchOf es)
+        → length (patchOf es) ≤ length buffer → mem′ ≡ written W mem es → buffer′ ≡ patchOf es ++ drop (length (patchOf es)) buffer
+        → StoredOf W size mem buffer es (Done n b k) mem′ buffer′
+    stored-done n b k mem′ buffer′ en eb ek h em eo =
+        record {
+          answer = (λ i. Done (en i) (eb i) (ek i))
+              ∙ sym (past-7 ∙ ap (by none) (le-ltb (length buffer) (length (patchOf es)) h));
+          memory = em;
+          patch = eo;
+        }
+
+-- the same of an equal list
+pub stored-listed : {W size : ℕ} {mem buffer : List ℕ} {es es′ : List Element} {v : Verdict} {mem′ buffer′ : List ℕ} → es ≡ es′
+    → StoredOf W size mem buffer es v mem′ buffer′ → StoredOf W size mem buffer es′ v mem′ buffer′
+stored-listed {W} {size} {mem} {buffer} {es} {es′} {v} {mem′} {buffer′} e s =
+    subst (λ (l : List Element). StoredOf W size mem buffer l v mem′ buffer′) e s
+
+-- ---- the whole call
+
+module _ (f : Flags) (m : Machine) (W : ℕ) (mem : List ℕ) (word : ℕ) (buffer : List ℕ) where
+  pub stored-refused : (r : Refusal) → ((room : ℕ) → verdictOf f m W (length mem) word room ≡ Refused r)
+      → Stored f m W mem word buffer (Refused r) mem buffer
+  stored-refused r h = record { answer = sym (h (length buffer)); memory = refl; patch = refl }
+
+  pub stored-passed : (es : List Element) (size : ℕ) (v : Verdict) (mem′ buffer′ : List ℕ) → Passed f m W (length mem) word es size
+      → StoredOf W size mem buffer es v mem′ buffer′ → Stored f m W mem word buffer v mem′ buffer′
+  stored-passed es size v mem′ buffer′ p s =
+      record {
+        answer = s .answer ∙ sym (p .verdict (length buffer));
+        memory = s .memory ∙ ap (memoryAfter v W mem) (sym (p .listed));
+        patch = s .patch ∙ ap (λ (l : List Element). bufferAfter v (patchOf l) buffer) (sym (p .listed));
+      }

@@ -1,5 +1,0 @@
-pub mod Concluding
-pub mod Writing
-pub mod Finishing
-pub mod Ready
-pub mod Single

@@ -1,0 +1,143 @@
+// Strided stores from verdict 7 on. The active elements lie side by side, so that memory is tested as a whole and the patch has one
+// run, or none where nothing is active.
+ghost use mathlib.Core.Path.{_≡_};
+ghost use mathlib.Core.Bool.{true};
+ghost use mathlib.Core.List.{List, []};
+ghost use mathlib.Core.Option.{none};
+ghost use Prim.Native.Nat.{ℕ, _+_, _*_, _<_};
+ghost use lib.ListN.{length};
+ghost use Rattle.window.specs.Window.{windowOk};
+ghost use Rattle.elements.specs.Accesses.{StridedSound, stridedElements};
+ghost use Rattle.verdicts.specs.Verdicts.{firstOutside};
+ghost use Rattle.outcomes.specs.Steps.{StoredOf};
+ghost use Rattle.strided.specs.Searching.{SearchedAs};
+use elements::StridedAccess;
+use verdicts::Refusal;
+use verdicts::Verdict;
+
+// All active elements lie in the window, or the lowest that doesn't.
+pub enum Search {
+    Inside,
+    Outside { element: u64, address: u64 },
+}
+
+// The lowest active element with a byte outside the window, by a walk.
+fn walk(s: StridedAccess, vb: usize, base: u64, room: u64) -> Search
+    requires { ⌜ StridedSound s vb ⌝ }
+    ensures { λ r. ⌜ ((z : List ℕ) → length z ≡ 32 * vb → SearchedAs base room (stridedElements s vb z) r) ⌝ }
+{
+    let high = s.high;
+    let size = s.size as u64;
+    let mut e = s.low;
+    while e < high {
+        let address = elements::strided_address(s, e);
+        if !window::inside(base, room, address, size) {
+            return Search::Outside {
+                element: e as u64,
+                address,
+            };
+        }
+        e += 1;
+    }
+    Search::Inside
+}
+
+// The same, by a test of them all first.
+fn find_outside(s: StridedAccess, vb: usize, base: u64, room: u64) -> Search
+    requires { ⌜ StridedSound s vb × (windowOk base room ≡ true) ⌝ }
+    ensures { λ r. ⌜ ((z : List ℕ) → length z ≡ 32 * vb → SearchedAs base room (stridedElements s vb z) r) ⌝ }
+{
+    let low = s.low;
+    let high = s.high;
+    if high <= low {
+        return Search::Inside;
+    }
+    let bytes = ((high - low) * s.size) as u64;
+    if window::inside(base, room, elements::strided_address(s, low), bytes) {
+        return Search::Inside;
+    }
+    walk(s, vb, base, room)
+}
+
+// A store with nothing active: an empty patch.
+fn store_none(base: u64, memory: &[u8], patch: &mut [u8]) -> Verdict
+    requires { ⌜ windowOk base (length (now memory)) ≡ true ⌝ }
+    ensures { λ r.
+        ⌜ ((size : ℕ)
+        → StoredOf base size (now (memory .entry)) (now (patch .entry)) [] r (now (memory .entry)) (now (patch .exit))) ⌝ }
+{
+    if patch.len() < 4 {
+        return Verdict::Refused {
+            refusal: Refusal::NoRoom,
+        };
+    }
+    let length = cutting::compose_spaced(base, 0, 1, 1, 0, memory, patch);
+    Verdict::Done {
+        elements: 0,
+        bytes: 0,
+        length: length as u64,
+    }
+}
+
+// Elements that all lie in the window: room, memory, patch.
+fn finish(
+    s: StridedAccess,
+    vb: usize,
+    z: &[u8],
+    base: u64,
+    memory: &mut [u8],
+    patch: &mut [u8],
+) -> Verdict
+    requires { ⌜ StridedSound s vb × (s .low < s .high) ⌝ }
+    requires { ⌜ length (now z) ≡ 32 * vb ⌝ }
+    requires { ⌜ (windowOk base (length (now memory)) ≡ true)
+        × (firstOutside base (length (now memory)) (stridedElements s vb (now z)) ≡ none) ⌝ }
+    ensures { λ r.
+        ⌜ StoredOf base (s .size) (now (memory .entry)) (now (patch .entry)) (stridedElements s vb (now (z .entry))) r
+        (now (memory .exit)) (now (patch .exit)) ⌝ }
+{
+    let bytes = (s.high - s.low) * s.size;
+    if patch.len() < bytes + 16 {
+        return Verdict::Refused {
+            refusal: Refusal::NoRoom,
+        };
+    }
+    let at = (elements::strided_address(s, s.low) - base) as usize;
+    let to = at + bytes;
+    let counts = elements::copy_active(s, vb, z, &mut memory[at..to]);
+    let length = cutting::compose_spaced(base, at, bytes, bytes, 1, memory, patch);
+    Verdict::Done {
+        elements: counts.elements,
+        bytes: counts.bytes,
+        length: length as u64,
+    }
+}
+
+// A strided store from verdict 7 on.
+pub fn store_strided(
+    s: StridedAccess,
+    vb: usize,
+    z: &[u8],
+    base: u64,
+    memory: &mut [u8],
+    patch: &mut [u8],
+) -> Verdict
+    requires { ⌜ StridedSound s vb ⌝ }
+    requires { ⌜ length (now z) ≡ 32 * vb ⌝ }
+    requires { ⌜ windowOk base (length (now memory)) ≡ true ⌝ }
+    ensures { λ r.
+        ⌜ StoredOf base (s .size) (now (memory .entry)) (now (patch .entry)) (stridedElements s vb (now (z .entry))) r
+        (now (memory .exit)) (now (patch .exit)) ⌝ }
+{
+    match find_outside(s, vb, base, memory.len() as u64) {
+        Search::Outside { element, address } => Verdict::Refused {
+            refusal: Refusal::Fault { element, address },
+        },
+        Search::Inside => {
+            if s.high <= s.low {
+                return store_none(base, memory, patch);
+            }
+            finish(s, vb, z, base, memory, patch)
+        }
+    }
+}

@@ -1,0 +1,168 @@
+-- `finish` of a scatter or quadword store: join, order, room, memory, patch. Each step's facts go to the laws of Finishing.
+-- Assumes nothing.
+use mathlib.Core.Path.{_≡_, sym, _∙_, subst}
+use mathlib.Core.List.{List}
+use Prim.Native.Nat.{ℕ, _+_, _≤_}
+use native.Mathlib.Omega.{arith}
+use lib.ListN.{length}
+use borrow.Author.Needs.{needs}
+use borrow.Author.Tests.{not-true, not-false, leb-true}
+use Rattle.window.specs.LittleEndian.{Bytes}
+use Rattle.window.proofs.LittleEndian.{bytes-at}
+use Rattle.ordering.specs.Keys.{entries}
+use Rattle.stretches.specs.Intervals.{total}
+use Rattle.stretches.specs.Stretches.{merged, Ordered}
+use Rattle.vectors.proofs.Finishing.{ready-sized, ready-placed, ready-distinct, ready-ordered, ready-sum, ready-short, ready-done}
+use Rattle.vectors.proofs.finish.Statement.{statement}
+use Rattle.vectors.proofs.finish.Tie as tie
+
+-- ---- after joining: the function's entry, and the stretches
+
+abbrev st : tie.After-join → tie.Start
+st j = j .before .before .before .before .before .before
+
+abbrev B : tie.After-join → List ℕ
+B j = j .join .last .1 .1 .1 .0
+
+long-B : (j : tie.After-join) → length (B j) ≡ 64
+long-B j = j .join .kept .1 .1 .1 .0
+
+-- ---- after ordering
+
+abbrev at : tie.After-order → tie.After-join
+at o = o .before .before .before
+
+abbrev start : tie.After-order → tie.Start
+start o = st (at o)
+
+abbrev C : tie.After-order → List ℕ
+C o = o .order .last .0
+
+abbrev m : tie.After-order → ℕ
+m o = at o .join .result
+
+in-C : (o : tie.After-order) → m o ≤ length (C o)
+in-C o = omega (arith, o .order .kept .0, long-B (at o), at o .join .ensures .0, start o .pre .1 .few)
+
+bytes : (o : tie.After-order) → Bytes (start o .args .memory .now)
+bytes o = bytes-at (start o .args .memory .now) (λ i. at o .before .before .before .slice-known .given i .fits)
+
+slice-aggregate-join : tie.Need-slice-aggregate-join
+slice-aggregate-join c = search needs
+
+join-requires : tie.Need-join-requires
+join-requires c κs =
+    let a = c .before .before .before .before .before in
+    (ready-sized _ _ _ (a .args .memory .now) _ _ _ (a .pre .0) (a .pre .1), a .pre .1 .few)
+
+slice-aggregate-order : tie.Need-slice-aggregate-order
+slice-aggregate-order c = search needs
+
+order-requires : tie.Need-order-requires
+order-requires c κs =
+    let j = c .before .before in
+    let p = st j .pre in
+    let m = j .join .ensures in (
+      omega (arith, long-B j, m .0, p .1 .few),
+      omega (arith, m .0, p .1 .few),
+      ready-distinct _ _ _ (st j .args .memory .now) _ _ _
+          (p .0) (p .1) _ _ (m .1),
+    )
+
+slice-aggregate-has-room : tie.Need-slice-aggregate-has-room
+slice-aggregate-has-room c = search needs
+
+mul-has-room : tie.Need-mul-has-room
+mul-has-room c = search needs
+
+has-room-requires : tie.Need-has-room-requires
+has-room-requires c κs =
+    let o = c .before .before in
+    let p = start o .pre in
+    let m = at o .join .ensures in (
+      in-C o,
+      omega (arith, m .0, p .1 .few),
+      omega (arith, ready-sum _ _ _ (start o .args .memory .now) _ _ _ (p .0) (p .1) _ _ (m .1) _ (o .order .ensures) (in-C o) (bytes o)),
+      p .1 .bytes,
+    )
+
+returns : tie.Need-returns
+returns c =
+    let o = c .before .before .before .before in
+    λ es R.
+    ready-short _ _ _ (start o .args .memory .now) _ _ _ es R _ _ (at o .join .ensures .1) _ (o .order .ensures) (in-C o) (bytes o) _
+    (sym (c .before .has-room .ensures) ∙ not-true (c .before .has-room .result) (c .if1 .taken))
+
+-- ---- there is room
+
+abbrev tested : tie.After-write-vector → tie.After-has-room
+tested w = w .before .before .before
+
+abbrev ordered : tie.After-has-room → tie.After-order
+ordered h = h .before .before .before
+
+room : (w : tie.After-write-vector)
+    → total (merged (entries (C (ordered (tested w))) 0 (m (ordered (tested w))))) + 4
+    ≤ length (start (ordered (tested w)) .args .patch .now)
+room w =
+    let h = tested w .has-room in
+    leb-true _ _ (sym (h .ensures) ∙ not-false (h .result) (w .before .before .if1 .left))
+
+write-vector-requires : tie.Need-write-vector-requires
+write-vector-requires c κs =
+    let a = start (ordered (c .before .before)) in
+    let r = a .pre .1 in
+    ((r .in-array, r .few, r .wide), ((r .doubleword, r .quadword), ready-placed _ _ _ (a .args .memory .now) _ _ _ (a .pre .0) r))
+
+slice-aggregate-compose : tie.Need-slice-aggregate-compose
+slice-aggregate-compose c = search needs
+
+compose-requires : tie.Need-compose-requires
+compose-requires c κs =
+    let w = c .before .before .before .before .before in
+    let o = ordered (tested w) in
+    let p = start o .pre in
+    let l : length (w .write-vector .last .1 .1 .1 .1 .1 .0) ≡ length (start o .args .memory .now) =
+    w .write-vector .kept .1 .1 .1 .1 .1 .0 in (
+      subst (Ordered (C o) (m o)) (sym l)
+          (ready-ordered _ _ _ (start o .args .memory .now) _ _ _ (p .0) (p .1) _ _ (at o .join .ensures .1) _ (o .order .ensures)
+          (in-C o) (bytes o)),
+      omega (arith, p .1 .top, l),
+      room w,
+    )
+
+same-length : tie.Need-same-length
+same-length c = search needs
+
+same-length-2 : tie.Need-same-length-2
+same-length-2 c = search needs
+
+returns-2 : tie.Need-returns-2
+returns-2 c =
+    let d = c .before .before in
+    let w = d .before .before .before .before .before .before in
+    let o = ordered (tested w) in
+    let r = w .write-vector .ensures in
+    λ es R.
+    ready-done _ _ _ (start o .args .memory .now) _ _ _ es R _ _ (at o .join .ensures .1) _ (o .order .ensures) (in-C o)
+    (bytes o) _ _ _ _ _ _
+    (room w) (r .0 .0) (r .0 .1) (r .1) (d .compose .ensures .0) (d .compose .ensures .1)
+
+pub finish-spec : {M : Type 1} → statement M
+finish-spec =
+    tie.close
+    (tie.spec
+    slice-aggregate-join
+    join-requires
+    slice-aggregate-order
+    order-requires
+    slice-aggregate-has-room
+    mul-has-room
+    has-room-requires
+    returns
+    write-vector-requires
+    slice-aggregate-compose
+    compose-requires
+    same-length
+    same-length-2
+    returns-2)

@@ -1,0 +1,44 @@
+-- Scatter and quadword stores from their keys on. For the contracts of the code's own functions. Assumes nothing.
+use Prim.Native.Nat.{ℕ, _+_, _*_, _^_, _≤_}
+use mathlib.Core.List.{List, [], _∷_}
+use mathlib.Core.Option.{none}
+use mathlib.Core.Path.{_≡_}
+use lib.ListN.{length}
+use Rattle.writes.specs.Elements.{Element}
+use Rattle.window.specs.Overwriting.{overwritten}
+use Rattle.ordering.specs.Keys.{numberOf, entries}
+use Rattle.stretches.specs.Stretches.{startOf, Seen, keysOf}
+use Rattle.cutting.specs.Cutting.{part, Fits}
+use Rattle.verdicts.specs.Verdicts.{firstOutside}
+
+-- the keys' bytes, out of a register whose elements are `step` bytes apart, put over memory in turn
+unfoldable pub putAll : ℕ → ℕ → List ℕ → List ℕ → List ℕ → List ℕ
+putAll step size stored [] mem = mem
+putAll step size stored (k ∷ K) mem = putAll step size stored K (overwritten mem (startOf k) (part stored (numberOf k * step) size))
+
+-- a key's bytes lie in a window of L bytes, and in a register of N bytes
+abbrev pub Placed : ℕ → ℕ → ℕ → ℕ → ℕ → Type 0
+Placed step size L N k = (startOf k + size ≤ L) × (numberOf k * step + size ≤ N)
+
+-- each element's bytes are those of the register
+abbrev pub Held : ℕ → ℕ → List ℕ → List Element → Type 0
+Held step size stored [] = Unit {0}
+Held step size stored (x ∷ xs) =
+    (x .bytes ≡ part stored (x .number * step) size) × (x .number * step + size ≤ length stored) × Held step size stored xs
+
+-- the first n keys of an array are those of elements that all lie in the window
+pub record Ready (W L step size : ℕ) (stored A : List ℕ) (n : ℕ) (es : List Element) : Type 0 where
+  pub keys : entries A 0 n ≡ keysOf W size es
+  pub in-array : n ≤ length A
+  pub few : n ≤ 64
+  pub top : W + L ≤ 2 ^ 64
+  pub small : L ≤ 65536
+  pub some : 1 ≤ size
+  pub wide : size ≤ 256
+  pub bytes : n * size ≤ 256
+  pub doubleword : size ≡ 8 → step ≡ 8
+  pub quadword : size ≡ 16 → step ≡ 16
+  pub inside : firstOutside W L es ≡ none
+  pub seen : Seen W L size 0 es
+  pub fits : Fits W L es
+  pub held : Held step size stored es
