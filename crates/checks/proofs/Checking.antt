@@ -21,8 +21,8 @@ use Rattle.elements.specs.Accesses.{VectorSound, StridedSound, stridedElements}
 use Rattle.elements.specs.declared.VectorAccess.{VectorAccess}
 use Rattle.elements.specs.declared.StridedAccess.{StridedAccess}
 use Rattle.elements.proofs.Shapes.{scatter-in, strided-in, quadword-in}
-use Rattle.elements.proofs.Listing.{scatter-elements, strided-elements, quadword-elements}
-use Rattle.elements.proofs.Soundness.{scatter-sound, strided-sound, quadword-sound}
+use Rattle.accesses.proofs.Listing.{scatter-elements, strided-elements, quadword-elements}
+use Rattle.accesses.proofs.Soundness.{scatter-sound, strided-sound, quadword-sound}
 use Rattle.verdicts.specs.Verdicts.{elementsFor, flagOn, illegal, onStack, stack, verdictOf, refusalNumber}
 use Rattle.checks.specs.Checking.{Sound, accessFor, vectorsIn, elementsIn, AccessSound, checkedFor, concluded, Passed, CheckedAs}
 use Rattle.verdicts.specs.declared.Flags.{Flags}

@@ -15,8 +15,8 @@ use Rattle.window.proofs.Order.{two}
 use Rattle.window.proofs.Windows.{in-window}
 use Rattle.elements.specs.Accesses.{StridedSound, stridedAddress, stridedElement, stridedElements}
 use Rattle.elements.specs.declared.StridedAccess.{StridedAccess}
-use Rattle.elements.proofs.Moving.{bytes-long}
-use Rattle.elements.proofs.Joined.{listed, strided-listed, strided-none, each-inside}
+use Rattle.accesses.proofs.Sizes.{bytes-long}
+use Rattle.accesses.proofs.Joined.{listed, strided-listed, strided-none, each-inside}
 use Rattle.verdicts.specs.Verdicts.{someActive, firstOutside}
 
 module _ (el : ℕ → Element) (W L : ℕ) where

@@ -12,7 +12,7 @@ use Rattle.window.specs.Window.{inWindow}
 use Rattle.window.proofs.Order.{absurdly}
 use Rattle.window.proofs.Windows.{in-window-inv}
 use Rattle.elements.specs.Elements.{actives}
-use Rattle.elements.proofs.Listing.{active-more, inactive-more, active-none}
+use Rattle.accesses.proofs.Listing.{active-more, inactive-more, active-none}
 use Rattle.verdicts.specs.Verdicts.{someActive, firstOutside}
 
 module _ (on : ℕ → Bool) (el : ℕ → Element) (n : ℕ) where

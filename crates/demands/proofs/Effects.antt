@@ -28,7 +28,7 @@ use Rattle.elements.specs.Machine.{Machine, vector}
 use Rattle.elements.specs.Stores.{stepOf, sizeOf, perRegister, countOf, startOf, registerIn, indexIn}
 use Rattle.elements.specs.Elements.{activeAt, elementAt, elements}
 use Rattle.elements.proofs.Shapes.{scatter-in, quadword-in, strided-in}
-use Rattle.elements.proofs.Stretches.{OneStretch, counter-stretch, actives-length, actives-sized, stretch-start}
+use Rattle.accesses.proofs.Stretches.{OneStretch, counter-stretch, actives-length, actives-sized, stretch-start}
 use Rattle.verdicts.specs.Verdicts.{elementsFor, patchOf, table}
 use Rattle.verdicts.specs.Statements.{before}
 use Rattle.verdicts.specs.declared.Flags.{Flags}

@@ -2,10 +2,4 @@ pub mod Leaves
 pub mod Shapes
 pub mod Bits
 pub mod Numbers
-pub mod Listing
-pub mod Soundness
-pub mod Stretches
 pub mod Ranges
-pub mod Moving
-pub mod Joined
-pub mod Copying

@@ -136,15 +136,6 @@ bytesFrom el (suc n) e = el e .bytes ++ bytesFrom el n (suc e)
 unfoldable pub stridedBytes : StridedAccess → ℕ → List ℕ → List ℕ
 stridedBytes s vb z = bytesFrom (stridedElement s vb z) (s .high - s .low) (s .low)
 
--- elements e up to `to` are active and of register r
-pub record PartOf (s : StridedAccess) (r e to : ℕ) : Type 0 where
-  pub row : r < s .nreg
-  pub from : r * s .per ≤ e
-  pub some : e < to
-  pub until : to ≤ r * s .per + s .per
-  pub low : s .low ≤ e
-  pub high : to ≤ s .high
-
 -- an offset's element has 8 bytes, or else 16 where the offset is the whole element, and 4 where it is extended
 abbrev pub otherStep : Extension → ℕ
 otherStep None = 16

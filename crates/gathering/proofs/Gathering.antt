@@ -13,7 +13,7 @@ use Rattle.writes.specs.Elements.{Element}
 use Rattle.window.specs.Window.{windowOk, inWindow}
 use Rattle.window.proofs.Windows.{window-inv, in-window-inv}
 use Rattle.elements.specs.Elements.{actives}
-use Rattle.elements.proofs.Listing.{active-more, inactive-more, active-none}
+use Rattle.accesses.proofs.Listing.{active-more, inactive-more, active-none}
 use Rattle.verdicts.specs.Verdicts.{firstOutside}
 use Rattle.checks.proofs.Walking.{Walked, walked-first, walked-past, walked-found, walked-done}
 use Rattle.ordering.specs.Keys.{entries}

@@ -23,8 +23,8 @@ use Rattle.elements.specs.Accesses.{scatterAccess, quadwordAccess, stridedAcces
 use Rattle.elements.specs.declared.VectorAccess.{VectorAccess}
 use Rattle.elements.specs.declared.StridedAccess.{StridedAccess}
 use Rattle.elements.proofs.Shapes.{ScatterIn, QuadwordIn, StridedIn}
-use Rattle.elements.proofs.Listing.{scatter-count, scatter-active, scatter-element, quadword-count, quadword-active, quadword-element}
-use Rattle.elements.proofs.Listing.{strided-active, strided-element}
+use Rattle.accesses.proofs.Listing.{scatter-count, scatter-active, scatter-element, quadword-count, quadword-active, quadword-element}
+use Rattle.accesses.proofs.Listing.{strided-active, strided-element}
 use Rattle.verdicts.specs.Verdicts.{lengthOk, registersOk}
 use Rattle.inspection.specs.Inspection.{counted, inspectedAt, inspectedFor, inspectedOf}
 use Rattle.inspection.specs.Steps.{vectorInspected, stridedInspected}

@@ -15,8 +15,8 @@ use Rattle.window.specs.Window.{windowOk}
 use Rattle.window.proofs.Windows.{window-inv}
 use Rattle.elements.specs.Accesses.{StridedSound, stridedAddress, stridedElements, stridedBytes}
 use Rattle.elements.specs.declared.StridedAccess.{StridedAccess}
-use Rattle.elements.proofs.Moving.{active-long}
-use Rattle.elements.proofs.Joined.{strided-count, strided-bytes, strided-some, strided-bounds, strided-written, strided-net}
+use Rattle.accesses.proofs.Sizes.{active-long}
+use Rattle.accesses.proofs.Joined.{strided-count, strided-bytes, strided-some, strided-bounds, strided-written, strided-net}
 use Rattle.stretches.specs.Intervals.{Interval, interval, Separate, total}
 use Rattle.stretches.proofs.Covering.{or, among, covered, isSome, some-writesAt}
 use Rattle.cutting.specs.Cutting.{cut, spaced, Fits}

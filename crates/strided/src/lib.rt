@@ -104,7 +104,7 @@ fn finish(
     }
     let at = (elements::strided_address(s, s.low) - base) as usize;
     let to = at + bytes;
-    let counts = elements::copy_active(s, vb, z, &mut memory[at..to]);
+    let counts = copying::copy_active(s, vb, z, &mut memory[at..to]);
     let length = cutting::compose_spaced(base, at, bytes, bytes, 1, memory, patch);
     Verdict::Done {
         elements: counts.elements,

@@ -12,7 +12,7 @@ use Rattle.elements.specs.Accesses.{stridedAccess, VectorSound, StridedSound}
 use Rattle.elements.specs.declared.VectorAccess.{VectorAccess}
 use Rattle.elements.specs.declared.StridedAccess.{StridedAccess}
 use Rattle.elements.proofs.Shapes.{scatter-in, quadword-in, strided-in}
-use Rattle.elements.proofs.Soundness.{scatter-sound, quadword-sound, strided-sound}
+use Rattle.accesses.proofs.Soundness.{scatter-sound, quadword-sound, strided-sound}
 use Rattle.inspection.specs.Inspection.{inspectedAt}
 use Rattle.inspection.specs.Steps.{vectorInspected, stridedInspected}
 use Rattle.inspection.specs.declared.Inspected.{Inspected}

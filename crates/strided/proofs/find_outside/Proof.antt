@@ -4,8 +4,8 @@ use Prim.Native.Nat.{_-_, _*_}
 use native.Mathlib.Omega.{arith}
 use borrow.Author.Needs.{needs}
 use Rattle.window.proofs.Windows.{window-inv, in-window-inv}
-use Rattle.elements.proofs.Moving.{all-small}
-use Rattle.elements.proofs.Joined.{strided-none}
+use Rattle.accesses.proofs.Sizes.{all-small}
+use Rattle.accesses.proofs.Joined.{strided-none}
 use Rattle.verdicts.specs.Verdicts.{firstOutside}
 use Rattle.checks.proofs.Ranging.{stretch-inside}
 use Rattle.checks.proofs.Spans.{strided-below}

@@ -10,7 +10,7 @@ use Rattle.window.proofs.LittleEndian.{bytes-at}
 use Rattle.window.proofs.Windows.{window-inv}
 use Rattle.window.proofs.Parts.{part-length, part-over}
 use Rattle.elements.specs.Accesses.{stridedBytes}
-use Rattle.elements.proofs.Moving.{all-small, active-long}
+use Rattle.accesses.proofs.Sizes.{all-small, active-long}
 use Rattle.stretches.specs.Intervals.{total}
 use Rattle.cutting.specs.Cutting.{spaced}
 use Rattle.checks.proofs.Spans.{strided-below}

@@ -6,7 +6,7 @@ use lib.ListN.{length}
 use borrow.Author.Needs.{needs}
 use Rattle.writes.specs.Elements.{Element}
 use Rattle.elements.specs.Accesses.{stridedElements}
-use Rattle.elements.proofs.Joined.{strided-none}
+use Rattle.accesses.proofs.Joined.{strided-none}
 use Rattle.strided.specs.Searching.{SearchedAs}
 use Rattle.strided.specs.declared.Search.{Search}
 use Rattle.outcomes.proofs.Concluding.{stored-fault, stored-listed}

@@ -8,8 +8,8 @@ use borrow.Author.Needs.{needs}
 use borrow.Author.Tests.{not-true, not-false}
 use Rattle.window.specs.Window.{inWindow}
 use Rattle.elements.specs.Accesses.{stridedElement, stridedElements}
-use Rattle.elements.proofs.Moving.{high-small, bytes-long}
-use Rattle.elements.proofs.Joined.{listed}
+use Rattle.accesses.proofs.Sizes.{high-small, bytes-long}
+use Rattle.accesses.proofs.Joined.{listed}
 use Rattle.verdicts.specs.Verdicts.{firstOutside}
 use Rattle.checks.proofs.Ranging.{ranged-first, ranged-in, ranged-out, ranged-done}
 use Rattle.checks.proofs.Spans.{window, strided-below}

@@ -16,13 +16,13 @@ use Rattle.window.proofs.LittleEndian.{bytes-take, bytes-drop, bytes-append}
 use Rattle.window.proofs.Order.{two}
 use Rattle.writes.proofs.Net.{splice-stretch}
 use Rattle.window.proofs.Parts.{length-over, over-join}
 use Rattle.elements.specs.Machine.{register}
 use Rattle.elements.specs.Elements.{actives}
 use Rattle.elements.specs.Accesses.{StridedSound, stridedActive, stridedAddress, stridedElement, stridedElements}
 use Rattle.elements.specs.Accesses.{bytesFrom, stridedBytes}
 use Rattle.elements.specs.declared.StridedAccess.{StridedAccess}
-use Rattle.elements.proofs.Stretches.{actives-on, actives-off, none-left, active-in}
-use Rattle.elements.proofs.Moving.{bytes-long, active-long}
+use Rattle.accesses.proofs.Stretches.{actives-on, actives-off, none-left, active-in}
+use Rattle.accesses.proofs.Sizes.{bytes-long, active-long}
 
 -- n elements from number e on
 unfoldable pub listed : (ℕ → Element) → ℕ → ℕ → List Element

@@ -1,9 +1,8 @@
--- The bytes of a strided store's active elements, by register. Assumes nothing.
+-- The bytes of a strided store's active elements, by register, and copied register by register. Assumes nothing.
 use mathlib.Core.Path.{_≡_, sym, ap, ap₂, _∙_}
 use mathlib.Core.List.{List, _++_, append-assoc}
-use Prim.Native.Nat.{ℕ, zero, suc, _+_, _-_, _*_, _/_, _%_, _≤_, _<_}
-use native.Mathlib.Nat.{zero-mul, add-mul, suc-mul, mul-comm, mul-le-mul, mul-le-mul-right, le-mul-of-pos-right}
-use native.Mathlib.Nat.{div-add-mod', div-lt-iff-lt-mul, le-div-iff-mul-le}
+use Prim.Native.Nat.{ℕ, zero, suc, _+_, _-_, _*_, _≤_, _<_}
+use native.Mathlib.Nat.{zero-mul, add-mul, suc-mul, mul-le-mul, mul-le-mul-right}
 use native.Mathlib.Omega.{arith}
 use lib.ListN.{length, take, drop, length-append, length-take, length-drop}
 use lib.Seq.{take-add, drop-drop}
@@ -11,10 +10,11 @@ use Rattle.writes.specs.Elements.{Element}
 use Rattle.window.specs.Overwriting.{overwritten}
 use Rattle.window.proofs.Order.{two}
 use Rattle.window.proofs.Parts.{length-over, over-join, over-none, over-all}
 use Rattle.elements.specs.Machine.{register}
-use Rattle.elements.specs.Accesses.{StridedSound, PartOf, stridedElement, bytesFrom, stridedBytes}
+use Rattle.elements.specs.Accesses.{StridedSound, stridedElement, bytesFrom, stridedBytes}
 use Rattle.elements.specs.declared.StridedAccess.{StridedAccess}
-use Rattle.elements.proofs.Numbers.{register-in, register-long}
+use Rattle.accesses.proofs.Sizes.{per-small, row-long, its-bytes, rest-long, active-long}
+use Rattle.copying.specs.Parts.{PartOf}
 
 module _ (el : ℕ → Element) where
   bytes-append : (a b e : ℕ) → bytesFrom el (a + b) e ≡ bytesFrom el a e ++ bytesFrom el b (e + a)
@@ -34,66 +34,11 @@ module _ (el : ℕ → Element) where
       ap (λ (n : ℕ). bytesFrom el n e) w ∙ bytes-append (to - e) (high - to) e
       ∙ ap (λ (n : ℕ). bytesFrom el (to - e) e ++ bytesFrom el (high - to) n) v
 
-  bytes-length : (k n e : ℕ) → ((i : ℕ) → i < e + n → length (el i .bytes) ≡ k) → length (bytesFrom el n e) ≡ n * k
-  unfolding bytesFrom
-  bytes-length k zero e f = sym (zero-mul k)
-  bytes-length k (suc n) e f =
-      omega (
-        arith,
-        length-append (el e .bytes) (bytesFrom el n (suc e)),
-        f e (omega arith),
-        bytes-length k n (suc e) (λ i h. f i (omega arith)),
-        suc-mul n k,
-      )
-
 -- ---- in one register
 
 module _ (s : StridedAccess) (vb : ℕ) (o : StridedSound s vb) where
-  per-small : s .per ≤ 256
-  per-small =
-      let w : 0 < s .step = omega (arith, o .wide) in
-      omega (arith, le-mul-of-pos-right (s .per) w, o .whole, o .high)
-
-  pub high-small : s .high ≤ 1024
-  high-small = omega (arith, o .most, mul-le-mul (o .nreg) per-small)
-
-  pub size-small : s .size ≤ 256
-  size-small = omega (arith, le-mul-of-pos-right (s .step) (o .per), mul-comm (s .per) (s .step), o .whole, o .high, o .size)
-
-  pub all-small : (s .high - s .low) * s .size ≤ 1024 * 256
-  all-small = let n : s .high - s .low ≤ 1024 = omega (arith, high-small) in mul-le-mul n size-small
-
-  module _ (r : ℕ) (h : r < s .nreg) where
-    pub row-small : (r + 1) * s .per ≤ 1024
-    row-small = let l : r + 1 ≤ 4 = omega (arith, o .nreg) in mul-le-mul l per-small
-
-    -- register r is one
-    pub row-below : s .first + r * s .stride < 32
-    row-below =
-        let l : r ≤ s .nreg - 1 = omega arith in
-        omega (arith, mul-le-mul-right (s .stride) l, o .last)
-
-    pub row-long : (z : List ℕ) → length z ≡ 32 * vb → length (register vb z (s .first + r * s .stride)) ≡ vb
-    row-long z q = register-long vb (s .first + r * s .stride) z (register-in vb (s .first + r * s .stride) 32 (length z) row-below q)
-
-  -- an element of register r
-  module _ (r e : ℕ) (a : r * s .per ≤ e) (b : e < r * s .per + s .per) where
-    in-row : e / s .per ≡ r
-    in-row =
-        let l : r ≤ e / s .per = le-div-iff-mul-le (o .per) .1 a in
-        let u : e / s .per < suc r = div-lt-iff-lt-mul (o .per) .1 (omega (arith, suc-mul r (s .per))) in
-        omega arith
-
-    in-it : e % s .per ≡ e - r * s .per
-    in-it = omega (arith, div-add-mod' e (s .per), ap (λ (n : ℕ). n * s .per) in-row)
-
-    its-bytes : (z : List ℕ)
-        → stridedElement s vb z e .bytes
-        ≡ take (s .size) (drop ((e - r * s .per) * s .size) (register vb z (s .first + r * s .stride)))
-    unfolding stridedElement
-    its-bytes z =
-        ap (λ (n : ℕ). take (s .size) (drop (e % s .per * n) (register vb z (s .first + e / s .per * s .stride)))) (o .packed)
-        ∙ ap₂ (λ (n i : ℕ). take (s .size) (drop (n * s .size) (register vb z (s .first + i * s .stride)))) in-it in-row
+  pub row-small : (r : ℕ) → r < s .nreg → (r + 1) * s .per ≤ 1024
+  row-small r h = let l : r + 1 ≤ 4 = omega (arith, o .nreg) in mul-le-mul l (per-small s vb o)
 
   module _ (z : List ℕ) (r : ℕ) where
     abbrev reg : List ℕ
@@ -109,7 +54,7 @@ module _ (s : StridedAccess) (vb : ℕ) (o : StridedSound s vb) where
         let i : suc e - r * s .per ≡ suc (e - r * s .per) = omega arith in
         let w : (suc e - r * s .per) * k ≡ y + k = ap (λ (x : ℕ). x * k) i ∙ suc-mul (e - r * s .per) k in
         let v : k + n * k ≡ suc n * k = omega (arith, suc-mul n k) in
-        ap₂ _++_ (its-bytes r e a (omega arith) z)
+        ap₂ _++_ (its-bytes s vb o r e a (omega arith) z)
         (row-bytes n (suc e) (omega arith) (omega arith)
         ∙ ap (λ (x : ℕ). take (n * k) (drop x reg)) w
         ∙ ap (take (n * k)) (sym (drop-drop k y reg)))
@@ -150,7 +95,7 @@ module _ (s : StridedAccess) (vb : ℕ) (o : StridedSound s vb) where
         ∙ omega (
           arith,
           part-in,
-          row-long r (p .row) z q,
+          row-long s vb o r (p .row) z q,
           length-take ((to - e) * s .size) (drop ((e - r * s .per) * s .step) g),
           length-drop ((e - r * s .per) * s .step) g,
         )
@@ -168,9 +113,6 @@ pub record Copied (s : StridedAccess) (vb : ℕ) (z out : List ℕ) (elements by
   pub long : length out ≡ (s .high - s .low) * s .size
   pub same : overwritten out ((e - s .low) * s .size) (bytesFrom (stridedElement s vb z) (s .high - e) e) ≡ stridedBytes s vb z
 
-up-to : (i e high : ℕ) → e ≤ high → i < e + (high - e) → i < high
-up-to i e high h k = omega arith
-
 gap : (a b c : ℕ) → a ≤ b → b ≤ c → (b - a) + (c - b) ≡ c - a
 gap a b c h k = omega arith
 
@@ -180,37 +122,6 @@ room-for low e high k x y t h j p q =
     let f : (e - low) * k + (high - e) * k ≡ (high - low) * k =
     sym (add-mul (e - low) (high - e) k) ∙ ap (λ (n : ℕ). n * k) (gap low e high h j) in
     omega arith
-
-module _ (s : StridedAccess) (vb : ℕ) (o : StridedSound s vb) (z : List ℕ) (q : length z ≡ 32 * vb) where
-  abbrev el : ℕ → Element
-  el = stridedElement s vb z
-
-  pub bytes-long : (i : ℕ) → i < s .high → length (el i .bytes) ≡ s .size
-  bytes-long i h =
-      let r = i / s .per in
-      let l : r < s .nreg = div-lt-iff-lt-mul (o .per) .1 (omega (arith, o .most)) in
-      let a : r * s .per ≤ i = le-div-iff-mul-le (o .per) .0 (omega arith) in
-      let b : i < suc r * s .per = div-lt-iff-lt-mul (o .per) .0 (omega arith) in
-      let c : i < r * s .per + s .per = omega (arith, suc-mul r (s .per)) in
-      let g = register vb z (s .first + r * s .stride) in
-      ap length (its-bytes s vb o r i a c z)
-      ∙ omega (
-        arith,
-        fits (i - r * s .per) (omega arith),
-        row-long s vb o r l z q,
-        length-take (s .size) (drop ((i - r * s .per) * s .size) g),
-        length-drop ((i - r * s .per) * s .size) g,
-      )
-    where
-      fits : (d : ℕ) → d < s .per → d * s .size + s .size ≤ vb
-      fits d h = omega (arith, suc-mul d (s .size), mul-le-mul-right (s .size) h, ap (λ (n : ℕ). s .per * n) (o .packed), o .whole)
-
-  rest-long : (e : ℕ) → e ≤ s .high → length (bytesFrom el (s .high - e) e) ≡ (s .high - e) * s .size
-  rest-long e h = bytes-length el (s .size) (s .high - e) e (λ i k. bytes-long i (up-to i e (s .high) h k))
-
-  pub active-long : length (stridedBytes s vb z) ≡ (s .high - s .low) * s .size
-  unfolding stridedBytes
-  active-long = rest-long (s .low) (o .order)
 
 -- `copy_active`: before its loop, after a turn that copies nothing or a part, and behind the loop
 module _ {s : StridedAccess} {vb : ℕ} (o : StridedSound s vb) (z : List ℕ) (q : length z ≡ 32 * vb) where

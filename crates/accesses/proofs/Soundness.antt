@@ -10,13 +10,13 @@ use Rattle.encoding.specs.declared.ScatterFields.{ScatterFields}
 use Rattle.encoding.specs.declared.StridedFields.{StridedFields}
 use Rattle.encoding.specs.declared.QuadwordFields.{QuadwordFields}
 use Rattle.encoding.specs.declared.Store.the-variants.{Scatter, Strided, Quadword}
 use Rattle.elements.specs.Machine.{Machine}
 use Rattle.elements.specs.Counter.{counterOf}
 use Rattle.elements.specs.Stores.{stepOf, perRegister, strideOf}
 use Rattle.elements.specs.Accesses.{VectorSound, StridedSound, scatterAccess, quadwordAccess, stridedAccess}
 use Rattle.elements.proofs.Numbers.{per-is}
-use Rattle.elements.proofs.Ranges.{range-order, range-most}
 use Rattle.elements.proofs.Shapes.{ScatterIn, QuadwordIn, StridedIn}
+use Rattle.accesses.proofs.Masks.{range-order, range-most}
 
 module _ (m : Machine) (c : Class) (e : c .esize / 8 * 8 ≡ c .esize) where
   per-whole : perRegister m c * stepOf c ≤ m .vb

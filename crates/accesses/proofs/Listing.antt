@@ -21,17 +21,17 @@ use Rattle.encoding.specs.declared.Store.the-variants.{Scatter, Strided, Quadwo
 use Rattle.window.specs.LittleEndian.{Bytes, leVal}
 use Rattle.writes.specs.Elements.{Element}
 use Rattle.window.proofs.LittleEndian.{bytes-take, bytes-drop}
 use Rattle.elements.specs.Machine.{Machine, baseOf, indexOf, vector, predicate}
 use Rattle.elements.specs.Counter.{counterOf, maskBit}
 use Rattle.elements.specs.Stores.{stepOf, sizeOf, perRegister, countOf, signed32, offsetOf, startOf}
 use Rattle.elements.specs.Elements.{activeAt, elementAt, actives, elements}
 use Rattle.elements.specs.Accesses.{offsetFrom, vectorAddress, vectorActive, vectorElement, vectorElements, scatterAccess}
 use Rattle.elements.specs.Accesses.{quadwordAccess}
 use Rattle.elements.specs.Accesses.{stridedAddress, stridedActive, stridedElement, stridedElements, stridedAccess}
 use Rattle.elements.specs.declared.VectorAccess.{VectorAccess}
 use Rattle.elements.proofs.Shapes.{ScatterIn, QuadwordIn, StridedIn}
-use Rattle.elements.proofs.Ranges.{range-is}
-use Rattle.elements.proofs.Stretches.{actives-on, actives-off}
+use Rattle.accesses.proofs.Stretches.{actives-on, actives-off}
+use Rattle.accesses.proofs.Masks.{range-is}
 
 -- ---- one more element
 

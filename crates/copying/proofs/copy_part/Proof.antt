@@ -5,11 +5,13 @@ use Prim.Native.Nat.{ℕ, _+_, _-_, _*_, _≤_}
 use native.Mathlib.Omega.{arith}
 use lib.ListN.{length, take, drop}
 use Rattle.window.proofs.Parts.{part-is, part-length, part-over}
-use Rattle.elements.specs.Accesses.{PartOf, stridedElement, bytesFrom}
-use Rattle.elements.proofs.Moving.{high-small, size-small, all-small, row-long, part-in, part-out, part-bytes, part-long}
+use Rattle.elements.specs.Accesses.{stridedElement, bytesFrom}
+use Rattle.accesses.proofs.Sizes.{high-small, size-small, all-small, row-long}
+use Rattle.copying.specs.Parts.{PartOf}
+use Rattle.copying.proofs.Moving.{part-in, part-out, part-bytes, part-long}
 use borrow.Author.Needs.{needs}
-use Rattle.elements.proofs.copy_part.Statement.{statement}
-use Rattle.elements.proofs.copy_part.Tie as tie
+use Rattle.copying.proofs.copy_part.Statement.{statement}
+use Rattle.copying.proofs.copy_part.Tie as tie
 
 -- ---- the part: how many bytes, where they are in the register, and where among the active elements' bytes
 

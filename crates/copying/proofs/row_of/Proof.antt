@@ -2,10 +2,10 @@
 use Prim.Native.Nat.{_+_, _*_, _<_}
 use native.Mathlib.Omega.{arith}
 use lib.ListN.{length}
 use Rattle.elements.proofs.Numbers.{register-in}
-use Rattle.elements.proofs.Moving.{row-below}
-use Rattle.elements.proofs.row_of.Statement.{statement}
-use Rattle.elements.proofs.row_of.Tie as tie
+use Rattle.accesses.proofs.Sizes.{row-below}
+use Rattle.copying.proofs.row_of.Statement.{statement}
+use Rattle.copying.proofs.row_of.Tie as tie
 
 below : (a : tie.Start) → a .args .s .first + a .args .r * a .args .s .stride < 32
 below a = row-below (a .args .s) (a .args .vb) (a .pre .0) (a .args .r) (a .pre .1 .1)

@@ -5,9 +5,9 @@ use Prim.Native.Nat.{ℕ, _+_, _-_, _*_, _≤_}
 use native.Mathlib.Omega.{arith}
 use lib.ListN.{length}
 use Rattle.window.proofs.Parts.{length-part, part-is, part-length, part-over}
-use Rattle.elements.proofs.Copying.{EachCopied, each-first, each-room, each-here, each-small, each-next, each-done}
-use Rattle.elements.proofs.copy_each.Statement.{statement}
-use Rattle.elements.proofs.copy_each.Tie as tie
+use Rattle.copying.proofs.Copying.{EachCopied, each-first, each-room, each-here, each-small, each-next, each-done}
+use Rattle.copying.proofs.copy_each.Statement.{statement}
+use Rattle.copying.proofs.copy_each.Tie as tie
 
 abbrev Inv-loop : tie.InvT-loop
 Inv-loop dst₀ src n size elements₀ bytes₀ e₀ dst elements bytes e = EachCopied src n size dst elements bytes e

@@ -3,8 +3,8 @@ use mathlib.Core.Path.{_≡_, sym, ap, _∙_}
 use Prim.Native.Nat.{ℕ, _*_}
 use native.Mathlib.Omega.{arith}
 use borrow.Author.Needs.{needs}
-use Rattle.elements.proofs.copy_elements.Statement.{statement}
-use Rattle.elements.proofs.copy_elements.Tie as tie
+use Rattle.copying.proofs.copy_elements.Statement.{statement}
+use Rattle.copying.proofs.copy_elements.Tie as tie
 
 copy-each-requires : tie.Need-copy-each-requires
 copy-each-requires c κs =

@@ -3,13 +3,13 @@
 use mathlib.Core.Path.{_≡_, sym, _∙_}
 use Prim.Native.Nat.{_+_, _-_, _*_, _≤_}
 use native.Mathlib.Omega.{arith}
-use Rattle.elements.specs.Accesses.{PartOf}
 use Rattle.elements.specs.declared.StridedAccess.{StridedAccess}
-use Rattle.elements.proofs.Moving.{high-small, all-small, row-small, part-out}
-use Rattle.elements.proofs.Moving.{Copied, copied-first, copied-off, copied-part, copied-on, copied-done}
+use Rattle.accesses.proofs.Sizes.{high-small, all-small}
+use Rattle.copying.specs.Parts.{PartOf}
+use Rattle.copying.proofs.Moving.{row-small, part-out, Copied, copied-first, copied-off, copied-part, copied-on, copied-done}
 use borrow.Author.Needs.{needs}
-use Rattle.elements.proofs.copy_active.Statement.{statement}
-use Rattle.elements.proofs.copy_active.Tie as tie
+use Rattle.copying.proofs.copy_active.Statement.{statement}
+use Rattle.copying.proofs.copy_active.Tie as tie
 
 abbrev Inv-loop : tie.InvT-loop
 Inv-loop s vb z out₀ nreg elements₀ bytes₀ e₀ r₀ out elements bytes e r = Copied s vb z out elements bytes e r
