@@ -3,8 +3,8 @@
 use mathlib.Core.Path.{sym, _∙_}
 use Prim.Native.Nat.{ℕ, _+_, _-_, _*_, _≤_}
 use native.Mathlib.Omega.{arith}
-use lib.ListN.{length}
-use Rattle.window.proofs.Parts.{length-part, part-is, part-length, part-over}
+use lib.ListN.{length, length-take, length-drop}
+use Rattle.window.proofs.Parts.{length-part, part-is, part-over}
 use Rattle.copying.proofs.Copying.{EachCopied, each-first, each-room, each-here, each-small, each-next, each-done}
 use Rattle.copying.proofs.copy_each.Statement.{statement}
 use Rattle.copying.proofs.copy_each.Tie as tie
@@ -66,7 +66,7 @@ part-copy-start : tie.Need-part-copy-start Inv-loop μ-loop
 part-copy-start c = omega arith
 
 part-copy-end : tie.Need-part-copy-end Inv-loop μ-loop
-part-copy-end c = in-dst c
+part-copy-end c = omega (arith, in-dst c)
 
 sub-copy-2 : tie.Need-sub-copy-2 Inv-loop μ-loop
 sub-copy-2 c = omega arith
@@ -75,14 +75,14 @@ part-copy-start-2 : tie.Need-part-copy-start-2 Inv-loop μ-loop
 part-copy-start-2 c = omega arith
 
 part-copy-end-2 : tie.Need-part-copy-end-2 Inv-loop μ-loop
-part-copy-end-2 c = in-src (c .before)
+part-copy-end-2 c = omega (arith, in-src (c .before))
 
 copy-requires : tie.Need-copy-requires Inv-loop μ-loop
 copy-requires c κs =
     let k = c .before .before in
-    let a = entry k in
-    part-length (a .args .src .now) (at k) (a .args .size) (in-src k)
-    ∙ sym (part-length (k .before .loop .dst) (at k) (a .args .size) (in-dst k))
+    let s = in-src k in
+    let d = in-dst k in
+    simp (length-take, length-drop) (omega arith)
 
 abbrev turn : tie.After-slice-known2 Inv-loop μ-loop → tie.In-loop Inv-loop μ-loop
 turn c = c .before .before .before .before .before
