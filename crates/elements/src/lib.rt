@@ -249,9 +249,9 @@ pub fn scatter_access(f: ScatterFields, vb: usize, x: &[u64; 31], sp: u64) -> Ve
 {
     let base = general(x, sp, f.rn);
     let extension = f.extension;
-    let scale = encoding::number_for(f.class, Number::Scale);
     let step = encoding::number_for(f.class, Number::Step) as usize;
     let size = encoding::number_for(f.class, Number::Size) as usize;
+    let scale = encoding::number_for(f.class, Number::Scale);
     VectorAccess {
         base,
         extension,

@@ -32,23 +32,23 @@ general-requires c κs = fields c .rn
 number-for-requires : tie.Need-number-for-requires
 number-for-requires c κs = listed (Scatter (c .before .args .f)) (c .before .pre .0)
 
-number-for-requires-2 : tie.Need-number-for-requires-2
-number-for-requires-2 c κs = let a = c .before .before in listed (Scatter (a .args .f)) (a .pre .0)
-
 cast-step : tie.Need-cast-step
 cast-step c = search needs
 
-number-for-requires-3 : tie.Need-number-for-requires-3
-number-for-requires-3 c κs = let a = c .before .before .before in listed (Scatter (a .args .f)) (a .pre .0)
+number-for-requires-2 : tie.Need-number-for-requires-2
+number-for-requires-2 c κs = let a = c .before .before in listed (Scatter (a .args .f)) (a .pre .0)
 
 cast-size : tie.Need-cast-size
 cast-size c = search needs
 
+number-for-requires-3 : tie.Need-number-for-requires-3
+number-for-requires-3 c κs = let a = c .before .before .before in listed (Scatter (a .args .f)) (a .pre .0)
+
 div-t12 : tie.Need-div-t12
 div-t12 c =
-    let s = c .before in
-    let a = s .before .before .before in
-    omega (arith, number a Step (s .number-for2 .result) (s .number-for2 .ensures), fields a .four)
+    let t = c .before .before in
+    let a = t .before .before in
+    omega (arith, number a Step (t .number-for .result) (t .number-for .ensures), fields a .four)
 
 cast-t13 : tie.Need-cast-t13
 cast-t13 c = search needs
@@ -61,23 +61,23 @@ cast-t15 c = search needs
 
 returns : tie.Need-returns
 returns c =
-    let n = c .before .before .before in
+    let l = c .before .before .before in
+    let n = l .before in
     let t = n .before in
-    let l = t .before in
-    let g = l .before in
+    let g = t .before in
     let a = g .before in
     let f = a .args .f in
     let vb = a .args .vb in
-    let step = number a Step (t .number-for2 .result) (t .number-for2 .ensures) in
+    let step = number a Step (t .number-for .result) (t .number-for .ensures) in
     let e : _≡_ {A = VectorAccess} _ (scatterAccess (machine vb (a .args .x .now) (a .args .sp) [] []) (classFor (Scatter f)) f) =
     λ i.
     record {
       base = g .general .ensures i;
       extension = f .extension;
-      scale = number a Scale (l .number-for .result) (l .number-for .ensures) i;
+      scale = number a Scale (l .number-for3 .result) (l .number-for3 .ensures) i;
       step = step i;
-      size = number a Size (n .number-for3 .result) (n .number-for3 .ensures) i;
-      count = pers vb (classFor (Scatter f)) (fields a .eight) (t .number-for2 .result) step i;
+      size = number a Size (n .number-for2 .result) (n .number-for2 .ensures) i;
+      count = pers vb (classFor (Scatter f)) (fields a .eight) (t .number-for .result) step i;
       offsets = f .zm;
       governing = f .pg;
       stored = f .zt;
@@ -90,10 +90,10 @@ scatter-access-spec =
     (tie.spec
     general-requires
     number-for-requires
-    number-for-requires-2
     cast-step
-    number-for-requires-3
+    number-for-requires-2
     cast-size
+    number-for-requires-3
     div-t12
     cast-t13
     cast-t14
