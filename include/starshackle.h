@@ -149,11 +149,14 @@ uint64_t starshackle_encode(const uint64_t fields[8], uint64_t answer[5]);
  *   word    the instruction word
  *   patch   where the patch goes
  *   patch_len  how many bytes there is room for; STARSHACKLE_LARGEST_STORE_PATCH is always enough
- *   answer  for the answer; answer[5] has no meaning yet and is 0
+ *   answer  for the answer
  *
  * DONE     answer[2] active elements, answer[3] bytes moved (an address that two elements write counts twice), answer[4] the patch's
- *          length; else 0. Bytes of memory that no active element covers are as they came. The patch is the first answer[4] bytes of
- *          the buffer; bytes behind it are as they came.
+ *          length, answer[5] steps; else 0. Bytes of memory that no active element covers are as they came. The patch is the first
+ *          answer[4] bytes of the buffer; bytes behind it are as they came.
+ *          Steps are the active elements that don't start where the active one before them, the next lower in number, ends; the first
+ *          has none before it and is a step. So there is one where a whole register is contiguous and active, and none where nothing
+ *          is active. A refusal has 0 there.
  * FAULT    answer[0] the lowest active element with a byte outside the window, answer[1] its first address; else 0.
  *          Elements are numbered from 0, a strided store's through all its registers.
  * NO_ROOM  zeros: the patch has more than patch_len bytes.

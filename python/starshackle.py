@@ -15,7 +15,7 @@ whole example of document 01, `st1b { z1.s }, p0, [x0, z2.s, uxtw]`:
 >>> memory, patch = bytearray(8), bytearray(LARGEST_STORE_PATCH)
 >>> stored = store(machine, 0x1000, memory, 0xE4428001, patch)
 >>> stored
-Stored(verdict=<Verdict.DONE: 0>, element=0, address=0, elements=4, bytes=4, length=31)
+Stored(verdict=<Verdict.DONE: 0>, element=0, address=0, elements=4, bytes=4, length=31, steps=3)
 >>> memory.hex(" ")
 'a1 a3 00 00 00 a4 00 00'
 
@@ -172,8 +172,9 @@ class Encoded(_Answer):
 class Stored(_Answer):
     """What a store has written.
 
-    DONE: elements that were active, bytes that they moved, and the patch's length. FAULT: the lowest active element with a byte
-    outside the window, and its first address. What a verdict doesn't have is 0.
+    DONE: elements that were active, bytes that they moved, the patch's length, and steps: how many active elements don't start where
+    the active one before them, the next lower in number, ends; the first has none before it and counts. FAULT: the lowest active
+    element with a byte outside the window, and its first address. What a verdict doesn't have is 0.
     """
 
     element: int
@@ -181,6 +182,7 @@ class Stored(_Answer):
     elements: int
     bytes: int
     length: int
+    steps: int
 
 
 @dataclass(frozen=True)
@@ -382,13 +384,13 @@ def store(machine, base, memory, word, patch):
     >>> machine.p[16:18] = b"\\x38\\x00"  # the first three elements of 64 bits
     >>> memory, patch = bytearray(b"." * 28), bytearray(b"." * 42)
     >>> store(machine, 0, memory, 0xA1606000, patch)
-    Stored(verdict=<Verdict.DONE: 0>, element=0, address=0, elements=3, bytes=24, length=40)
+    Stored(verdict=<Verdict.DONE: 0>, element=0, address=0, elements=3, bytes=24, length=40, steps=1)
     >>> memory
     bytearray(b'0123456789abcdefghijklmn....')
     >>> patch[12:]
     bytearray(b'0123456789abcdefghijklmnPE\\x01\\x00..')
     >>> store(machine, 0, bytearray(20), 0xA1606000, patch)
-    Stored(verdict=<Verdict.FAULT: 7>, element=2, address=16, elements=0, bytes=0, length=0)
+    Stored(verdict=<Verdict.FAULT: 7>, element=2, address=16, elements=0, bytes=0, length=0, steps=0)
     >>> store(machine, 0, memory, 0xA1606000, bytearray(39)).verdict
     <Verdict.NO_ROOM: 8>
     """
@@ -398,7 +400,7 @@ def store(machine, base, memory, word, patch):
     string = _changed("patch", patch, z=machine.z, p=machine.p)
     answer = _StoreAnswers()
     verdict = Verdict(_library.starshackle_store(*lent, base, *window, word, *string, answer))
-    return Stored(verdict, *answer[:5])
+    return Stored(verdict, *answer)
 
 
 def element(machine, word, number):

@@ -59,12 +59,12 @@ static void expect_answer(int line, const char *what, uint64_t number, uint64_t 
     memset(answer, 0x5A, sizeof answer); /* so that the next call has to write its entries */
 }
 
-/* A call that answers into `answer`: its verdict and all its entries, of starshackle_store those that aren't always 0. */
+/* A call that answers into `answer`: its verdict and all its entries. */
 #define ANSWERS(call, number, a, b, c, d, e) expect_answer(__LINE__, #call, call, number, a, b, c, d, e, UNWRITTEN)
 #define REFUSED(call, number) ANSWERS(call, number, 0, 0, 0, 0, 0)
-#define STORES(call, number, e, address, elements, bytes, length) \
-    expect_answer(__LINE__, #call, call, number, e, address, elements, bytes, length, 0)
-#define STORE_REFUSED(call, number) STORES(call, number, 0, 0, 0, 0, 0)
+#define STORES(call, number, e, address, elements, bytes, length, steps) \
+    expect_answer(__LINE__, #call, call, number, e, address, elements, bytes, length, steps)
+#define STORE_REFUSED(call, number) STORES(call, number, 0, 0, 0, 0, 0, 0)
 
 /* ---- a machine and its window, which has bytes before and behind it that no call may touch */
 
@@ -297,12 +297,12 @@ static void expect_example(void)
     expect_patch(0, EXAMPLE, sizeof EXAMPLE);
 }
 
-/* `masked_length` is the length of the patch without element 1. */
-static void whole_example(const uint64_t *offsets, const uint64_t *bytes, size_t masked_length)
+/* `masked_length` and `masked_steps` are the length of the patch and the steps without element 1. */
+static void whole_example(const uint64_t *offsets, const uint64_t *bytes, uint64_t steps, size_t masked_length, uint64_t masked_steps)
 {
     size_t e;
     scatter_machine(offsets, bytes);
-    STORES(store(SCATTER, MOST_PATCH), STARSHACKLE_DONE, 0, 0, 4, 4, sizeof EXAMPLE);
+    STORES(store(SCATTER, MOST_PATCH), STARSHACKLE_DONE, 0, 0, 4, 4, sizeof EXAMPLE, steps);
     expect_example();
     CHECK(untouched());
     ANSWERS(starshackle_judge(patch, sizeof EXAMPLE, answer), STARSHACKLE_DONE, 0, 0, 2, 3, 0);
@@ -316,14 +316,14 @@ static void whole_example(const uint64_t *offsets, const uint64_t *bytes, size_t
     m.p[1] = 0x11;
     ANSWERS(element(SCATTER, 1), STARSHACKLE_DONE, 0, 0x1000 + offsets[1], 16 + 4, 1, 4);
     ANSWERS(element(SCATTER, 3), STARSHACKLE_DONE, 1, 0x1000 + offsets[3], 16 + 12, 1, 4);
-    STORES(store(SCATTER, MOST_PATCH), STARSHACKLE_DONE, 0, 0, 3, 3, masked_length);
+    STORES(store(SCATTER, MOST_PATCH), STARSHACKLE_DONE, 0, 0, 3, 3, masked_length, masked_steps);
 }
 
 static void example(void)
 {
     WORD_IS(SCATTER, 6, 2, 1, 0, 0, 1, 0);
-    whole_example(OFFSETS, BYTES, sizeof EXAMPLE);
-    whole_example(OFFSETS2, BYTES2, sizeof EXAMPLE - 1);
+    whole_example(OFFSETS, BYTES, 3, sizeof EXAMPLE, 2);
+    whole_example(OFFSETS2, BYTES2, 4, sizeof EXAMPLE - 1, 3);
 }
 
 /* The patch is the same whatever the window holds, and applying it there leaves what the store leaves. */
@@ -334,7 +334,7 @@ static void fillings(void)
     for (i = 0; i < sizeof bytes; i++) {
         scatter_machine(OFFSETS, BYTES);
         refill(bytes[i]);
-        STORES(store(SCATTER, MOST_PATCH), STARSHACKLE_DONE, 0, 0, 4, 4, sizeof EXAMPLE);
+        STORES(store(SCATTER, MOST_PATCH), STARSHACKLE_DONE, 0, 0, 4, 4, sizeof EXAMPLE, 3);
         expect_example();
         CHECK(untouched());
         refill(bytes[i]);
@@ -355,7 +355,7 @@ static void rooms(void)
     }
     for (room = sizeof EXAMPLE; room < sizeof EXAMPLE + 3; room++) {
         fill();
-        STORES(store(SCATTER, room), STARSHACKLE_DONE, 0, 0, 4, 4, sizeof EXAMPLE);
+        STORES(store(SCATTER, room), STARSHACKLE_DONE, 0, 0, 4, 4, sizeof EXAMPLE, 3);
         expect_example();
         CHECK(untouched());
     }
@@ -385,7 +385,7 @@ static void strided(void)
     set_z(24, 1, 8, UINT64_C(0x4444444444444444));
     STORE_REFUSED(store(word, sizeof wanted - 1), STARSHACKLE_NO_ROOM);
     CHECK(untouched());
-    STORES(store(word, sizeof wanted), STARSHACKLE_DONE, 0, 0, 3, 24, sizeof wanted);
+    STORES(store(word, sizeof wanted), STARSHACKLE_DONE, 0, 0, 3, 24, sizeof wanted, 1);
     expect_patch(0, wanted, sizeof wanted);
     for (i = 0; i < 24; i++)
         expect_memory(i, wanted[12 + i]);
@@ -401,7 +401,7 @@ static void strided(void)
         ANSWERS(element(0xA16F6000, i), STARSHACKLE_DONE, i == 3, 0x0FE0 + 8 * i, i / 2 * 8 * 16 + i % 2 * 8, 8, 4);
     set_counter(8, 0x8000); /* nothing is active */
     m.length = 0;
-    STORES(store(word, MOST_PATCH), STARSHACKLE_DONE, 0, 0, 0, 0, 4);
+    STORES(store(word, MOST_PATCH), STARSHACKLE_DONE, 0, 0, 0, 0, 4, 0);
 }
 
 static void quadword(void)
@@ -421,7 +421,7 @@ static void quadword(void)
         m.z[32 + 16 + i] = (uint8_t)(0xC0 + i);
     ANSWERS(element(word, 0), STARSHACKLE_DONE, 0, 0x9989, 32, 16, 2);
     ANSWERS(element(word, 1), STARSHACKLE_DONE, 1, 0x1020, 48, 16, 2);
-    STORES(store(word, MOST_PATCH), STARSHACKLE_DONE, 0, 0, 1, 16, 12 + 16 + 4);
+    STORES(store(word, MOST_PATCH), STARSHACKLE_DONE, 0, 0, 1, 16, 12 + 16 + 4, 1);
     for (i = 0; i < 16; i++)
         expect_memory(0x20 + i, (uint8_t)(0xC0 + i));
     expect_patch(0, head, sizeof head);
@@ -443,7 +443,7 @@ static void largest(void)
         m.z[i] = (uint8_t)(i / 8);
     STORE_REFUSED(store(word, room - 1), STARSHACKLE_NO_ROOM);
     CHECK(untouched());
-    STORES(store(word, room), STARSHACKLE_DONE, 0, 0, 128, 1024, room);
+    STORES(store(word, room), STARSHACKLE_DONE, 0, 0, 128, 1024, room, 1);
     expect_patch(0, head, sizeof head);
     for (i = 0; i < 1024; i++) {
         const uint8_t *byte = m.z + i / 256 * 4 * 256 + i % 256;
@@ -459,6 +459,90 @@ static void largest(void)
     CHECK(untouched());
 }
 
+/* ---- steps */
+
+/* Puts the offset of an element of `esize` bytes, in class 12 its address, into Z2. */
+static void element_at(size_t esize, size_t e, uint64_t offset)
+{
+    set_z(2, e * esize / 8, 8, offset);
+}
+
+static void set_active(size_t esize, size_t e, int active)
+{
+    m.p[e * esize / 8] = (uint8_t)active;
+}
+
+/* A whole register that is contiguous and active, ascending and descending; and none of it active. */
+static void whole_register(size_t vb, uint32_t word, size_t esize, size_t size)
+{
+    const uint64_t room = STARSHACKLE_LARGEST_STORE_PATCH, length = 12 + vb / esize * size + 4;
+    const size_t count = vb / esize;
+    size_t e;
+    machine(vb, STARSHACKLE_FLAG_SVE | STARSHACKLE_FLAG_SVE2P1, 0, 256);
+    all_active();
+    for (e = 0; e < count; e++)
+        element_at(esize, e, e * size);
+    STORES(store(word, room), STARSHACKLE_DONE, 0, 0, count, count * size, length, 1);
+    for (e = 0; e < count; e++)
+        element_at(esize, e, (count - 1 - e) * size);
+    STORES(store(word, room), STARSHACKLE_DONE, 0, 0, count, count * size, length, count);
+    memset(m.p, 0, sizeof m.p);
+    STORES(store(word, room), STARSHACKLE_DONE, 0, 0, 0, 0, 4, 0);
+}
+
+static void whole_registers(size_t vb, uint32_t word, size_t registers)
+{
+    const size_t bytes = registers * vb;
+    machine(vb, STARSHACKLE_FLAG_SME2 | STARSHACKLE_FLAG_STREAMING, 0, 1024);
+    set_counter(8, 0x8008); /* all */
+    STORES(store(word, MOST_PATCH), STARSHACKLE_DONE, 0, 0, bytes / 8, bytes, 12 + bytes + 4, 1);
+    set_counter(8, 0x8018); /* all but the first */
+    STORES(store(word, MOST_PATCH), STARSHACKLE_DONE, 0, 0, bytes / 8 - 1, bytes - 8, 12 + bytes - 8 + 4, 1);
+    set_counter(8, 0x8000); /* none */
+    STORES(store(word, MOST_PATCH), STARSHACKLE_DONE, 0, 0, 0, 0, 4, 0);
+}
+
+/* Four doublewords of class 4 at these offsets in a window of 64 bytes, and which of them are active. */
+static void four(int line, uint64_t a, uint64_t b, uint64_t c, uint64_t d, unsigned active, uint64_t steps)
+{
+    const uint64_t offsets[4] = {a, b, c, d};
+    size_t e;
+    machine(32, STARSHACKLE_FLAG_SVE, UINT64_C(0xFFFFFFFFFFFFFFC0), 64);
+    m.x[0] = m.base;
+    for (e = 0; e < 4; e++) {
+        element_at(8, e, offsets[e]);
+        set_active(8, e, active >> e & 1);
+    }
+    check(line, store(0xE582A001, MOST_PATCH) == STARSHACKLE_DONE, "it is done");
+    check(line, answer[5] == steps, "steps");
+    memset(answer, 0x5A, sizeof answer);
+}
+
+#define FOUR(a, b, c, d, active, steps) four(__LINE__, a, b, c, d, active, steps)
+
+static void steps(void)
+{
+    static const size_t lengths[5] = {16, 32, 64, 128, 256};
+    size_t i;
+    for (i = 0; i < 5; i++) {
+        whole_register(lengths[i], 0xE582A001, 8, 8);          /* st1d { z1.d }, p0, [x0, z2.d] */
+        whole_register(lengths[i], 0xE402A001, 8, 1);          /* st1b { z1.d }, p0, [x0, z2.d] */
+        whole_register(lengths[i], 0xE43F2041, 16, 16);        /* st1q { z1.q }, p0, [z2.d] */
+        whole_registers(lengths[i], 0xA120E000 | 31 << 16, 4); /* st1d { z0.d, z4.d, z8.d, z12.d }, pn8, [x0] */
+        whole_registers(lengths[i], 0xA1606000, 2);            /* st1d { z0.d, z8.d }, pn8, [x0] */
+    }
+    FOUR(0, 8, 16, 24, 15, 1);
+    FOUR(32, 40, 48, 56, 15, 1);  /* up to 2^64 */
+    FOUR(0, 8, 17, 25, 15, 2);    /* a gap of one byte */
+    FOUR(0, 8, 15, 23, 15, 2);    /* an overlap of one byte */
+    FOUR(8, 16, 0, 8, 15, 2);     /* a descending element */
+    FOUR(56, 0, 8, 16, 15, 2);    /* from the window's end to its start */
+    FOUR(0, 8, 16, 24, 13, 2);    /* an inactive lane */
+    FOUR(0, 48, 8, 16, 13, 1);    /* one inside a stretch that goes on */
+    FOUR(0, 8, 16, 24, 6, 1);     /* two outside of it */
+    FOUR(0, 16, 32, 48, 15, 4);
+}
+
 /* ---- verdicts */
 
 static void refused(int line, uint32_t word, uint64_t number, uint64_t e, uint64_t address)
@@ -467,14 +551,14 @@ static void refused(int line, uint32_t word, uint64_t number, uint64_t e, uint64
     check(line, untouched(), "memory and patch are as they came");
 }
 
-static void done(int line, uint32_t word, uint64_t elements, uint64_t bytes, uint64_t length)
+static void done(int line, uint32_t word, uint64_t elements, uint64_t bytes, uint64_t length, uint64_t steps)
 {
-    expect_answer(line, "storing", store(word, MOST_PATCH), STARSHACKLE_DONE, 0, 0, elements, bytes, length, 0);
+    expect_answer(line, "storing", store(word, MOST_PATCH), STARSHACKLE_DONE, 0, 0, elements, bytes, length, steps);
     fill();
 }
 
 #define IS_REFUSED(word, number, e, address) refused(__LINE__, word, number, e, address)
-#define IS_DONE(word, elements, bytes, length) done(__LINE__, word, elements, bytes, length)
+#define IS_DONE(word, elements, bytes, length, steps) done(__LINE__, word, elements, bytes, length, steps)
 
 static void refusals(void)
 {
@@ -510,7 +594,7 @@ static void refusals(void)
     m.length = 16;
     IS_REFUSED(SCATTER, STARSHACKLE_FAULT, 0, 0x1000);
     m.x[0] = UINT64_C(0xFFFFFFFFFFFFFFFA);
-    IS_DONE(SCATTER, 4, 4, sizeof EXAMPLE); /* offset 5 is the last address */
+    IS_DONE(SCATTER, 4, 4, sizeof EXAMPLE, 3); /* offset 5 is the last address */
     m.x[0]++;
     IS_REFUSED(SCATTER, STARSHACKLE_FAULT, 3, 0); /* and here the first */
 
@@ -522,7 +606,7 @@ static void refusals(void)
     ANSWERS(element(SCATTER, 0), STARSHACKLE_DONE, 1, 0x1000, 16, 1, 4); /* looks at no flag */
     m.flags = ~UINT64_C(0) ^ STARSHACKLE_FLAG_SME2;
     IS_REFUSED(0xA1206000, STARSHACKLE_UNDEFINED, 0, 0);
-    IS_DONE(SCATTER, 4, 4, sizeof EXAMPLE);
+    IS_DONE(SCATTER, 4, 4, sizeof EXAMPLE, 3);
     m.flags = ~UINT64_C(0) ^ STARSHACKLE_FLAG_SVE2P1;
     IS_REFUSED(0xE4202000, STARSHACKLE_UNDEFINED, 0, 0);
     m.flags = STARSHACKLE_FLAG_SVE | streaming;
@@ -530,7 +614,7 @@ static void refusals(void)
     m.flags = STARSHACKLE_FLAG_SVE2P1 | streaming;
     IS_REFUSED(0xE4202000, STARSHACKLE_ILLEGAL, 0, 0);
     m.flags = STARSHACKLE_FLAG_SVE | streaming | STARSHACKLE_FLAG_FA64;
-    IS_DONE(SCATTER, 4, 4, sizeof EXAMPLE);
+    IS_DONE(SCATTER, 4, 4, sizeof EXAMPLE, 3);
     m.flags = STARSHACKLE_FLAG_SME2 | STARSHACKLE_FLAG_FA64;
     IS_REFUSED(0xA1206000, STARSHACKLE_ILLEGAL, 0, 0);
 
@@ -539,16 +623,16 @@ static void refusals(void)
     m.sp = 0x0FF8;
     m.base = 0x0FF8;
     m.flags = STARSHACKLE_FLAG_SVE | STARSHACKLE_FLAG_SP_CHECK_NONE_ACTIVE;
-    IS_DONE(SCATTER | 31 << 5, 4, 4, sizeof EXAMPLE);
+    IS_DONE(SCATTER | 31 << 5, 4, 4, sizeof EXAMPLE, 3);
     m.flags = STARSHACKLE_FLAG_SVE | STARSHACKLE_FLAG_SP_CHECK;
     IS_REFUSED(SCATTER | 31 << 5, STARSHACKLE_STACK, 0, 0);
     memset(m.p, 0, sizeof m.p);
-    IS_DONE(SCATTER | 31 << 5, 0, 0, 4);
+    IS_DONE(SCATTER | 31 << 5, 0, 0, 4, 0);
     m.flags |= STARSHACKLE_FLAG_SP_CHECK_NONE_ACTIVE;
     IS_REFUSED(SCATTER | 31 << 5, STARSHACKLE_STACK, 0, 0);
-    IS_DONE(SCATTER, 0, 0, 4);
+    IS_DONE(SCATTER, 0, 0, 4, 0);
     m.sp = 0x1000;
-    IS_DONE(SCATTER | 31 << 5, 0, 0, 4);
+    IS_DONE(SCATTER | 31 << 5, 0, 0, 4, 0);
 
     /* the lowest active element outside the window; nothing is written, though others are inside */
     scatter_machine(OFFSETS, BYTES);
@@ -558,7 +642,7 @@ static void refusals(void)
     IS_REFUSED(SCATTER, STARSHACKLE_FAULT, 0, 0x1000);
     m.length = 0;
     IS_REFUSED(SCATTER, STARSHACKLE_FAULT, 0, 0x1000);
-    STORES(store(SCATTER, 0), STARSHACKLE_FAULT, 0, 0x1000, 0, 0, 0); /* before what is said of the room */
+    STORES(store(SCATTER, 0), STARSHACKLE_FAULT, 0, 0x1000, 0, 0, 0, 0); /* before what is said of the room */
     CHECK(untouched());
 }
 
@@ -662,16 +746,16 @@ static void nulls(void)
     STORE_REFUSED(starshackle_store(16, sve, m.x, 0, m.z, 512, m.p, 32, 0x1000, memory, 8, SCATTER, NULL, 0, answer),
                   STARSHACKLE_NO_ROOM);
     STORES(starshackle_store(16, sve, m.x, 0, m.z, 512, m.p, 32, 0x1000, NULL, 0, SCATTER, patch, 31, answer), STARSHACKLE_FAULT, 0,
-           0x1000, 0, 0, 0);
+           0x1000, 0, 0, 0, 0);
     STORES(starshackle_store(16, sve, m.x, 0, m.z, 512, m.p, 32, 0x1000, NULL, 0, SCATTER, NULL, 0, answer), STARSHACKLE_FAULT, 0,
-           0x1000, 0, 0, 0);
+           0x1000, 0, 0, 0, 0);
     /* and with none */
     memset(m.p, 0, sizeof m.p);
     STORE_REFUSED(starshackle_store(16, sve, m.x, 0, m.z, 512, m.p, 32, 0x1000, NULL, 0, SCATTER, NULL, 0, answer),
                   STARSHACKLE_NO_ROOM);
     CHECK(untouched());
     STORES(starshackle_store(16, sve, m.x, 0, m.z, 512, m.p, 32, 0x1000, NULL, 0, SCATTER, patch, 4, answer), STARSHACKLE_DONE, 0, 0,
-           0, 0, 4);
+           0, 0, 4, 0);
     expect_patch(0, EMPTY, sizeof EMPTY);
     CHECK(untouched());
 
@@ -693,6 +777,7 @@ int main(void)
     strided();
     quadword();
     largest();
+    steps();
     refusals();
     patches();
     nulls();

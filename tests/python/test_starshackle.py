@@ -65,13 +65,13 @@ class Words(unittest.TestCase):
 class Example(unittest.TestCase):
     """The whole example, and its second form."""
 
-    MACHINES = [scatter(), scatter((1, 0, 5, 5), (0xA3, 0xA1, 0x00, 0xA4))]
+    MACHINES = [(scatter(), 3), (scatter((1, 0, 5, 5), (0xA3, 0xA1, 0x00, 0xA4)), 4)]
 
     def test_store(self):
-        for machine in self.MACHINES:
+        for machine, steps in self.MACHINES:
             for room in [31, 32, LARGEST_STORE_PATCH]:
                 memory, patch = bytearray(b"\x77" * 8), bytearray(b"\x77" * room)
-                self.assertEqual(store(machine, 0x1000, memory, SCATTER, patch), Stored(Verdict.DONE, 0, 0, 4, 4, 31))
+                self.assertEqual(store(machine, 0x1000, memory, SCATTER, patch), Stored(Verdict.DONE, 0, 0, 4, 4, 31, steps))
                 self.assertEqual(memory, b"\xa1\xa3\x77\x77\x77\xa4\x77\x77")
                 self.assertEqual(patch, EXAMPLE + b"\x77" * (room - 31))
                 memory.append(0)  # nothing holds on to them
@@ -93,13 +93,64 @@ class Example(unittest.TestCase):
             self.assertEqual(element(machine, SCATTER, e), Element(Verdict.DONE, False, 0, 0, 0, 4))
 
 
+class Steps(unittest.TestCase):
+    """How many active elements don't start where the active one before them ends."""
+
+    # by class: a word, an element's bytes in its register, the bytes that it writes
+    CLASSES = {4: (0xE580A000 | 2 << 16 | 1, 8, 8), 7: (0xE400A000 | 2 << 16 | 1, 8, 1), 12: (0xE4202000 | 31 << 16 | 2 << 5 | 1, 16, 16)}
+
+    def steps(self, class_, vb, offsets, inactive=()):
+        """The steps of a store of VB bytes whose elements lie at these offsets from 1000h."""
+        word, esize, _ = self.CLASSES[class_]
+        machine = Machine(vb=vb, flags=Flags.SVE | Flags.SVE2P1, p=bytearray(b"\xff" * (2 * vb)))
+        machine.x[0] = 0 if class_ == 12 else 0x1000
+        for e, offset in enumerate(offsets):
+            struct.pack_into("<Q", machine.z, 2 * vb + e * esize, offset + (0x1000 if class_ == 12 else 0))
+        for e in inactive:
+            machine.p[e * esize // 8] &= 0xFE
+        stored = store(machine, 0x1000, bytearray(4096), word, bytearray(LARGEST_STORE_PATCH))
+        self.assertTrue(stored.done)
+        self.assertEqual(stored.elements, len(offsets) - len(inactive))
+        return stored.steps
+
+    def test_whole_register(self):
+        for vb in LENGTHS:
+            for class_, (_, esize, size) in self.CLASSES.items():
+                count = vb // esize
+                contiguous = [size * e for e in range(count)]
+                self.assertEqual(self.steps(class_, vb, contiguous), 1)
+                self.assertEqual(self.steps(class_, vb, contiguous[::-1]), count)
+                self.assertEqual(self.steps(class_, vb, contiguous, range(count)), 0)
+
+    def test_whole_registers(self):
+        for vb in LENGTHS:
+            for class_, registers in [(8, 2), (9, 4), (10, 2), (11, 4)]:
+                machine = Machine(vb=vb, flags=Flags.SME2 | Flags.STREAMING)
+                machine.x[0], count = 0x1000, registers * vb // 8
+                word = BASES[class_ - 1] | (31 << 16 if class_ < 10 else 0)
+                for counter, elements in [(0x8008, count), (0x0018, 1), (0x8018, count - 1), (0x8000, 0)]:
+                    struct.pack_into("<H", machine.p, vb, counter)
+                    stored = store(machine, 0x1000, bytearray(1024), word, bytearray(LARGEST_STORE_PATCH))
+                    self.assertEqual((stored.verdict, stored.elements, stored.steps), (Verdict.DONE, elements, int(elements > 0)))
+
+    def test_breaks(self):
+        for offsets, steps in [((0, 8, 16, 24), 1), ((0, 8, 17, 25), 2), ((0, 8, 15, 23), 2), ((24, 16, 8, 0), 4), ((8, 16, 0, 8), 2),
+                               ((0, 0, 8, 8), 3), ((4088, 0, 8, 16), 2)]:
+            self.assertEqual(self.steps(4, 32, offsets), steps, offsets)
+
+    def test_inactive_lanes(self):
+        self.assertEqual(self.steps(4, 32, (0, 8, 16, 24), [1]), 2)
+        self.assertEqual(self.steps(4, 32, (0, 100, 8, 16), [1]), 1)  # goes on where the active one before ends
+        self.assertEqual(self.steps(4, 32, (0, 8, 16, 24), [0, 3]), 1)
+
+
 class Refusals(unittest.TestCase):
     """Every verdict, with its detail; what is lent stays as it came."""
 
     def check(self, machine, word, verdict, detail=(0, 0), base=0x1000, length=8, room=LARGEST_STORE_PATCH):
         memory, patch = bytearray(random.Random(length).randbytes(length)), bytearray(b"\x77" * room)
         before = bytes(memory)
-        self.assertEqual(store(machine, base, memory, word, patch), Stored(verdict, *detail, 0, 0, 0))
+        self.assertEqual(store(machine, base, memory, word, patch), Stored(verdict, *detail, 0, 0, 0, 0))
         self.assertEqual(memory, before)
         self.assertEqual(patch, b"\x77" * room)
 
@@ -135,7 +186,7 @@ class Refusals(unittest.TestCase):
         machine.sp, machine.flags = 0x1001, Flags.SVE | Flags.SP_CHECK
         self.check(machine, word, Verdict.STACK)
         machine.p = bytes(32)
-        self.assertEqual(store(machine, 0, bytearray(), word, bytearray(4)), Stored(Verdict.DONE, 0, 0, 0, 0, 4))
+        self.assertEqual(store(machine, 0, bytearray(), word, bytearray(4)), Stored(Verdict.DONE, 0, 0, 0, 0, 4, 0))
         machine.flags |= Flags.SP_CHECK_NONE_ACTIVE
         self.check(machine, word, Verdict.STACK)
 
@@ -372,7 +423,7 @@ class Random(unittest.TestCase):
         """A done store over another filling of its window, in buffers one byte too short and just long enough."""
         filling, string = self.random.randbytes(length), encoding(writes)
         memory, patch = bytearray(filling), bytearray(len(string) - 1)
-        self.assertEqual(store(machine, base, memory, word, patch), Stored(Verdict.NO_ROOM, 0, 0, 0, 0, 0))
+        self.assertEqual(store(machine, base, memory, word, patch), Stored(Verdict.NO_ROOM, 0, 0, 0, 0, 0, 0))
         self.assertEqual(memory, filling)
         self.assertEqual(patch, bytes(len(string) - 1))
         patch.append(0)
@@ -402,14 +453,16 @@ class Random(unittest.TestCase):
             if stored.done:
                 classes[decode(word).store.class_] += bool(active)
                 string = encoding(writes)
-                self.assertEqual(stored, Stored(Verdict.DONE, 0, 0, len(active), moved, len(string)))
+                ends = [None] + [one.address + one.bytes for _, one in active]
+                steps = sum(one.address != end for (_, one), end in zip(active, ends))
+                self.assertEqual(stored, Stored(Verdict.DONE, 0, 0, len(active), moved, len(string), steps))
                 self.assertEqual(memory, laid(writes, base, before))
                 self.assertEqual(patch, string + b"\x77" * (LARGEST_PATCH - len(string)))
                 self.other_filling(machine, base, length, word, stored, writes)
                 continue
             self.assertEqual(memory, before)
             self.assertEqual(patch, b"\x77" * LARGEST_PATCH)
-            self.assertEqual((stored.elements, stored.bytes, stored.length), (0, 0, 0))
+            self.assertEqual((stored.elements, stored.bytes, stored.length, stored.steps), (0, 0, 0, 0))
             if stored.verdict is Verdict.FAULT:
                 outside = ((e, one.address) for e, one in active if not base <= one.address <= base + length - one.bytes)
                 self.assertEqual(next(outside), (stored.element, stored.address))

@@ -1,16 +1,17 @@
 -- Elements at consecutive addresses write as one: what a strided store's active elements write is their bytes in a row. Assumes nothing.
 use mathlib.Core.Path.{_≡_, refl, sym, ap, ap₂, _∙_, subst}
-use mathlib.Core.Bool.{Bool, true, false, _&&_, and-false}
+use mathlib.Core.Bool.{Bool, true, false, cond, _&&_, and-false}
 use mathlib.Core.List.{List, [], _∷_, _++_, append-assoc, append-nil}
 use Prim.Native.Nat.{ℕ, zero, suc, _+_, _-_, _*_, _/_, _%_, _^_, _≤_, _<_}
 use native.Mathlib.Nat.{zero-mul, suc-mul, mul-pos, mul-le-mul-right}
 use native.Mathlib.Omega.{arith}
+use mathlib.Core.Option.{some}
 use lib.Dec.{leb, ltb}
 use lib.ListN.{length, drop, length-append}
-use borrow.Author.Tests.{lt-ltb, le-ltb, lt-leb, le-leb}
+use borrow.Author.Tests.{eq-eqb, lt-ltb, le-ltb, lt-leb, le-leb}
 use Rattle.window.specs.LittleEndian.{Bytes}
 use Rattle.writes.specs.Sets.{run, writesOf}
-use Rattle.writes.specs.Elements.{Element, InWindow, written, below, from, splice, spliceAll, netEffect}
+use Rattle.writes.specs.Elements.{Element, InWindow, written, below, from, splice, spliceAll, netEffect, stepsFrom, stepsOf}
 use Rattle.window.specs.Overwriting.{overwritten}
 use Rattle.window.proofs.LittleEndian.{bytes-take, bytes-drop, bytes-append}
 use Rattle.window.proofs.Order.{two}
@@ -65,6 +66,15 @@ module _ (el : ℕ → Element) where
         let w : e ≡ low = omega arith in
         from-low (suc n) e a h ∙ ap (λ (k : ℕ). listed el (high - k) k) w)
 
+  -- ---- where all are
+
+  pub actives-listed : (on : ℕ → Bool) (n e : ℕ) → ((i : ℕ) → e ≤ i → i < e + n → on i ≡ true) → actives on el n e ≡ listed el n e
+  unfolding actives listed
+  actives-listed on zero e f = refl
+  actives-listed on (suc n) e f =
+      actives-on on el n e (f e (omega arith) (omega arith))
+      ∙ ap (λ (x : List Element). el e ∷ x) (actives-listed on n (suc e) (λ i a b. f i (omega arith) (omega arith)))
+
   -- ---- elements of which each starts where the one before ends
 
   -- n of them, from number e on
@@ -105,6 +115,27 @@ module _ (el : ℕ → Element) where
       ∙ spliced-listed n (suc e) a (p ++ q) (λ k. f e (omega arith) (omega arith) ∙ omega arith) (λ i k l. f i (omega arith) (omega arith))
       (λ i k l. b i (omega arith) (omega arith)) (bytes-append p q bp bq) (omega arith)
       ∙ ap (λ (x : List ℕ). splice a x []) (append-assoc p q r)
+
+  -- and they are one step
+  steps-behind : (n e a : ℕ) → (0 < n → el e .address ≡ a) → Consecutive n e → stepsFrom (some a) (listed el n e) ≡ 0
+  unfolding listed stepsFrom
+  steps-behind zero e a g f = refl
+  steps-behind (suc n) e a g f =
+      omega (
+        arith,
+        ap (λ (t : Bool). cond {A = ℕ} t 0 1) (eq-eqb a (el e .address) (sym (g (omega arith)))),
+        steps-behind n (suc e) (el e .address + length (el e .bytes)) (λ k. f e (omega arith) (omega arith))
+            (λ i k l. f i (omega arith) (omega arith)),
+      )
+
+  pub steps-listed : (n e : ℕ) → Consecutive (suc n) e → stepsOf (listed el (suc n) e) ≡ 1
+  unfolding listed stepsFrom
+  steps-listed n e f =
+      omega (
+        arith,
+        steps-behind n (suc e) (el e .address + length (el e .bytes)) (λ k. f e (omega arith) (omega arith))
+            (λ i k l. f i (omega arith) (omega arith)),
+      )
 
   -- the net effect is one run
   net-listed : (n e : ℕ) → Consecutive (suc n) e → ((i : ℕ) → e ≤ i → i < e + suc n → Bytes (el i .bytes))
@@ -267,3 +298,11 @@ module _ (s : StridedAccess) (vb : ℕ) (o : StridedSound s vb) (z : List ℕ) w
           go (suc n) k t e f l =
               ap (λ (x : List Element). netEffect x) e
               ∙ net-listed el n (s .low) f (λ i a b. element-bytes bz i) (omega (arith, strided-bounds .1))
+
+      pub strided-steps : stepsOf (stridedElements s vb z) ≡ 1
+      strided-steps = go (s .high - s .low) (omega arith) strided-listed consecutive
+        where
+          go : (n : ℕ) → 0 < n → stridedElements s vb z ≡ listed el n (s .low) → Consecutive el n (s .low)
+              → stepsOf (stridedElements s vb z) ≡ 1
+          go zero k e f = absurd (omega arith)
+          go (suc n) k e f = ap (λ (x : List Element). stepsOf x) e ∙ steps-listed el n (s .low) f

@@ -11,9 +11,9 @@ use borrow.Author.Tests.{eq-eqb, ltb-false, leb-true, leb-false, le-ltb}
 use lib.Dec.{eqb, ltb, leb}
 use lib.ListN.{length}
 use Rattle.window.specs.LittleEndian.{Bytes}
-use Rattle.writes.specs.Elements.{Element, InWindow}
+use Rattle.writes.specs.Elements.{Element, InWindow, stepsFrom}
 use Rattle.window.proofs.Order.{three}
-use Rattle.writes.proofs.Counting.{starts, OfSize}
+use Rattle.writes.proofs.Counting.{OfSize}
 use Rattle.elements.specs.Counter.{unitOf, countIn, maskBit}
 use Rattle.elements.specs.Elements.{actives}
 use Rattle.elements.proofs.Leaves.{at-lowest}
@@ -118,33 +118,34 @@ module _ (on : ℕ → Bool) (el : ℕ → Element) where
 
   module _ (one : OneStretch on) (N : ℕ)
       (next : (i : ℕ) → suc i < N → on i ≡ true → on (suc i) ≡ true → el (suc i) .address ≡ el i .address + length (el i .bytes)) where
-    going-on : (n e : ℕ) → suc e + n ≤ N → on e ≡ true → starts (some (el e .address + length (el e .bytes))) (actives on el n (suc e)) ≡ 0
-    unfolding starts actives
+    going-on : (n e : ℕ) → suc e + n ≤ N → on e ≡ true
+        → stepsFrom (some (el e .address + length (el e .bytes))) (actives on el n (suc e)) ≡ 0
+    unfolding stepsFrom actives
     going-on zero e k h = refl
     going-on (suc n) e k h =
         let o : Option ℕ = some (el e .address + length (el e .bytes)) in
         either (suc e)
-        (λ q. ap (starts o) (actives-on n (suc e) q)
+        (λ q. ap (stepsFrom o) (actives-on n (suc e) q)
         ∙ omega (
           arith,
           ap (λ (t : Bool). cond {A = ℕ} t 0 1)
               (eq-eqb (el e .address + length (el e .bytes)) (el (suc e) .address) (sym (next e (omega arith) h q))),
           going-on n (suc e) (omega arith) q,
         ))
-        (λ q. ap (starts o) (none-left (suc n) (suc e) (λ j l. one e h q j l)))
+        (λ q. ap (stepsFrom o) (none-left (suc n) (suc e) (λ j l. one e h q j l)))
 
-    pub one-start : (n e : ℕ) → e + n ≤ N → starts none (actives on el n e) ≤ 1
-    unfolding starts actives
+    pub one-start : (n e : ℕ) → e + n ≤ N → stepsFrom none (actives on el n e) ≤ 1
+    unfolding stepsFrom actives
     one-start zero e k = omega arith
     one-start (suc n) e k =
         either e
-        (λ q. omega (arith, ap (starts none) (actives-on n e q), going-on n e (omega arith) q))
-        (λ q. omega (arith, ap (starts none) (actives-off n e q), one-start n (suc e) (omega arith)))
+        (λ q. omega (arith, ap (stepsFrom none) (actives-on n e q), going-on n e (omega arith) q))
+        (λ q. omega (arith, ap (stepsFrom none) (actives-off n e q), one-start n (suc e) (omega arith)))
 
-  -- elements of k bytes at consecutive addresses modulo 2^64, in a window: one stretch starts once
+  -- elements of k bytes at consecutive addresses modulo 2^64, in a window: one stretch stepsFrom once
   pub stretch-start : (k base n W L : ℕ) → OneStretch on → ((i : ℕ) → el i .address ≡ (base + i * k) % 2 ^ 64)
       → ((i : ℕ) → i < n → length (el i .bytes) ≡ k) → L ≤ 65536 → W + L ≤ 2 ^ 64 → InWindow W L (actives on el n 0)
-      → starts none (actives on el n 0) ≤ 1
+      → stepsFrom none (actives on el n 0) ≤ 1
   stretch-start k base n W L one steps long low top fit =
       one-start one n
       (λ i h a b.

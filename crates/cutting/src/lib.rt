@@ -119,7 +119,13 @@ pub fn compose(w: u64, stretches: &[u32], m: usize, memory: &[u8], out: &mut [u8
     to + 4
 }
 
-// The patch of `count` runs of `size` bytes each, `gap` bytes from one start to the next. Answers its length.
+// A patch's length, and how many steps it took.
+pub struct Composed {
+    pub length: usize,
+    pub steps: usize,
+}
+
+// The patch of `count` runs of `size` bytes each, `gap` bytes from one start to the next: a step puts one.
 pub fn compose_spaced(
     w: u64,
     first: usize,
@@ -128,24 +134,27 @@ pub fn compose_spaced(
     count: usize,
     memory: &[u8],
     out: &mut [u8],
-) -> usize
+) -> Composed
     requires { ⌜ (1 ≤ size) × (gap ≤ 65536) × (length (now memory) ≤ 65536) × (w + length (now memory) ≤ 2 ^ 64)
         × (total (spaced first gap size count) + 4 ≤ length (now out)) ⌝ }
     requires { ⌜ Separate (length (now memory)) 0 (spaced first gap size count) ⌝ }
-    ensures { λ r. ⌜ r ≡ total (spaced first gap size count) + 4 ⌝ }
+    ensures { λ r. ⌜ (r .length ≡ total (spaced first gap size count) + 4) × (r .steps ≡ count) ⌝ }
     ensures { λ _.
         ⌜ now (out .exit) ≡ overwritten (now (out .entry)) 0
         (encodeRuns (cut w (now (memory .entry)) (spaced first gap size count))) ⌝ }
 {
     let mut to = 0;
     let mut p = first;
-    let mut t = 0;
-    while t < count {
+    let mut steps = 0;
+    while steps < count {
         put_run(out, to, w, memory, p, p + size);
         to = to + 12 + size;
         p += gap;
-        t += 1;
+        steps += 1;
     }
     put_trailer(out, to, count);
-    to + 4
+    Composed {
+        length: to + 4,
+        steps,
+    }
 }

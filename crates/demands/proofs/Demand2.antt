@@ -19,10 +19,10 @@ use Rattle.demands.proofs.Storing.{storing-decided, fault-given, fault-
 use Rattle.demands.proofs.Applying.{applying-decided, outside-names-the-lowest}
 
 storing-returns : StoringReturns
-storing-returns = ((λ n b k. refl), (λ e a. refl), (λ v p q. zeros v p q))
+storing-returns = ((λ n b k t. refl), (λ e a. refl), (λ v p q. zeros v p q))
   where
     zeros : (v : Verdict) → (number v ≡ 0 → ⊥) → (number v ≡ 7 → ⊥) → numbers v ≡ 0 ∷ 0 ∷ 0 ∷ 0 ∷ 0 ∷ 0 ∷ []
-    zeros (Done n b k) p q = absurd (p refl)
+    zeros (Done n b k t) p q = absurd (p refl)
     zeros (Refused Length) p q = refl
     zeros (Refused Registers) p q = refl
     zeros (Refused Window) p q = refl

@@ -10,7 +10,7 @@ use lib.Dec.{ltb}
 use lib.ListN.{length, take, drop, replicate, length-replicate}
 use lib.Seq.{take-at, drop-at}
 use Rattle.encoding.specs.Decoding.{decodeOf}
-use Rattle.writes.specs.Elements.{InWindow, written}
+use Rattle.writes.specs.Elements.{InWindow, written, stepsOf}
 use Rattle.writes.specs.Encoding.{encode, PatchOf}
 use Rattle.writes.specs.Sets.{runs, overlay}
 use Rattle.window.specs.Window.{windowOk}
@@ -83,15 +83,15 @@ whatever-filling f m W mem mem₁ word buffer buffer₁ v v₁ mem′ mem₁′ 
 
 -- ---- what is handed out
 
-stored-length : (f : Flags) (m : Machine) (W : ℕ) (mem : List ℕ) (word : ℕ) (buffer : List ℕ) (n b k : ℕ) (mem′ buffer′ : List ℕ)
-    → Stored f m W mem word buffer (Done n b k) mem′ buffer′ → k ≡ length (patchFor m word)
-stored-length f m W mem word buffer n b k mem′ buffer′ c =
-    let q = is-done f m W mem word buffer (Done n b k) mem′ buffer′ c refl .answer in
+stored-length : (f : Flags) (m : Machine) (W : ℕ) (mem : List ℕ) (word : ℕ) (buffer : List ℕ) (n b k t : ℕ) (mem′ buffer′ : List ℕ)
+    → Stored f m W mem word buffer (Done n b k t) mem′ buffer′ → k ≡ length (patchFor m word)
+stored-length f m W mem word buffer n b k t mem′ buffer′ c =
+    let q = is-done f m W mem word buffer (Done n b k t) mem′ buffer′ c refl .answer in
     cc
 
 keeps-behind : KeepsBehind
-keeps-behind f m W mem word buffer n b k mem′ buffer′ c =
-    let q = stored-length f m W mem word buffer n b k mem′ buffer′ c in
+keeps-behind f m W mem word buffer n b k t mem′ buffer′ c =
+    let q = stored-length f m W mem word buffer n b k t mem′ buffer′ c in
     ap (drop k) (c .patch)
     ∙ drop-at (patchFor m word) (drop (length (patchFor m word)) buffer) k (sym q)
     ∙ ap (λ (j : ℕ). drop j buffer) (sym q)
@@ -100,7 +100,7 @@ keeps-behind f m W mem word buffer n b k mem′ buffer′ c =
 pub hands : (f : Flags) (m : Machine) (W : ℕ) (mem : List ℕ) (word : ℕ) (buffer s : List ℕ) → HandsOut f m W mem word buffer s
     → s ≡ patchFor m word
 hands f m W mem word buffer s h =
-    let q = stored-length f m W mem word buffer (h .elements) (h .bytes) (h .size) (h .memory) (h .after) (h .stored) in
+    let q = stored-length f m W mem word buffer (h .elements) (h .bytes) (h .size) (h .steps) (h .memory) (h .after) (h .stored) in
     h .string
     ∙ ap (take (h .size)) (h .stored .patch)
     ∙ take-at (patchFor m word) (drop (length (patchFor m word)) buffer) (h .size) (sym q)
@@ -149,6 +149,7 @@ module _ (f : Flags) (m : Machine) (W L word : ℕ) (d : DoneOver f m W L word) 
           elements = length es;
           bytes = length es * sizeFor (decodeOf word);
           size = length p;
+          steps = stepsOf es;
           memory = written W mem es;
           after = p ++ drop (length p) buffer;
           stored = record { answer = sym (answers buffer room); memory = refl; patch = refl };

@@ -8,17 +8,20 @@ use native.Mathlib.Nat.{one-mul, mul-assoc, mul-le-mul, mul-le-mul-left, mul-le-
 use native.Mathlib.Omega.{arith}
 use lib.ListN.{length, drop}
 use Rattle.encoding.specs.Decoding.{decodeOf}
-use Rattle.encoding.specs.Encoding.{classFor, refused}
+use Rattle.encoding.specs.Encoding.{rowFor, classFor, refused}
+use Rattle.encoding.specs.declared.Decoded.the-variants as D
 use Rattle.encoding.specs.declared.Store.{Store}
 use Rattle.encoding.specs.declared.Store.the-variants.{Scatter, Strided, Quadword}
 use Rattle.encoding.specs.declared.StridedFields.{StridedFields}
+use Rattle.encoding.proofs.Rows.{small-at}
+use Rattle.encoding.proofs.Statements.{accepted}
 use Rattle.window.specs.LittleEndian.{Bytes}
-use Rattle.writes.specs.Elements.{Element, InSpace, InWindow, netEffect}
+use Rattle.writes.specs.Elements.{Element, InSpace, InWindow, netEffect, stepsFrom, stepsOf}
 use Rattle.writes.specs.Encoding.{encode, Within}
 use Rattle.writes.specs.Sets.{runs}
 use Rattle.writes.specs.Sizes.{maxRuns, maxBytes}
 use Rattle.window.specs.Window.{windowOk}
-use Rattle.writes.proofs.Counting.{OfSize, in-space, starts, starts-length, runs-starts, length-net}
+use Rattle.writes.proofs.Counting.{OfSize, in-space, steps-length, runs-steps, length-net}
 use Rattle.window.proofs.LittleEndian.{bytes-take, bytes-drop}
 use Rattle.writes.proofs.Runs.{length-encode}
 use Rattle.writes.proofs.Statements.{net-effect-is-a-set}
@@ -68,12 +71,12 @@ module _ (m : Machine) (o : Sound (m .vb) (m .z) (m .p)) (lent : Bytes (m .z)) w
 
     -- no more runs than the elements start anew
     module _ (some : 1 ≤ sizeOf (classFor s)) (space : InSpace (elements m s)) where
-      runs-most : length (runs (netEffect (elements m s))) ≤ starts none (elements m s)
-      runs-most = runs-starts (sizeOf (classFor s)) (elements m s) some of-size space
+      runs-most : length (runs (netEffect (elements m s))) ≤ stepsFrom none (elements m s)
+      runs-most = runs-steps (sizeOf (classFor s)) (elements m s) some of-size space
 
       runs-all : length (runs (netEffect (elements m s))) ≤ countOf m s
       unfolding elements
-      runs-all = omega (arith, runs-most, starts-length none (elements m s), actives-length (activeAt m s) (elementAt m s) (countOf m s) 0)
+      runs-all = omega (arith, runs-most, steps-length none (elements m s), actives-length (activeAt m s) (elementAt m s) (countOf m s) 0)
 
       bytes-all : length (netEffect (elements m s)) ≤ countOf m s * sizeOf (classFor s)
       unfolding elements
@@ -116,7 +119,7 @@ module _ (m : Machine) (o : Sound (m .vb) (m .z) (m .p)) (lent : Bytes (m .z)) w
         let v = counterOf m (f .pc) in
         subst (λ (k : ℕ). OneStretch (λ (i : ℕ). maskBit v (i * k))) (sym (eight .0)) (counter-stretch v)
 
-    one-run : starts none (elements m (Strided f)) ≤ 1
+    one-run : stepsFrom none (elements m (Strided f)) ≤ 1
     unfolding elements elementAt
     one-run =
         let s = Strided f in
@@ -159,6 +162,21 @@ module _ (m : Machine) (o : Sound (m .vb) (m .z) (m .p)) (lent : Bytes (m .z)) w
       vector-sizes (Quadword f) a (s .small .size .0) space (s .nreg) (s .eight) (omega (arith, s .sixteen)) (s .small .size .1)
 
 -- ---- together
+
+-- no more runs than steps
+pub runs-within : (f : Flags) (m : Machine) (W L word : ℕ) (s : Store) → DoneOver f m W L word → decodeOf word ≡ D.Known s
+    → length (runs (netEffect (elements m s))) ≤ stepsOf (elements m s)
+runs-within f m W L word s d e =
+    let t = settled f m W L word 0 (none-parted 7 (before 8 (table f m W L (decodeOf word) 0)) (d .none-due) .0) in
+    let x = t .store in
+    let es = elements m x in
+    let q : elementsFor m (decodeOf word) ≡ es = ap (elementsFor m) (t .decoded) in
+    let sized = of-size m (t .buffers) (d .lent) x (t .accepted) in
+    let fit : InWindow W L es = subst (InWindow W L) q (all-inside f m W L word (d .none-due)) in
+    let space = in-space W L (sizeOf (classFor x)) es (window-inv W L (t .window) .1) sized fit in
+    let some = small-at (rowFor x) (accepted x (t .accepted) .0) .size .0 in
+    subst (λ (l : List Element). length (runs (netEffect l)) ≤ stepsOf l) (sym q ∙ ap (elementsFor m) e)
+    (runs-steps (sizeOf (classFor x)) es some sized space)
 
 pub record Effect (m : Machine) (W L word : ℕ) : Type 0 where
   pub window : windowOk W L ≡ true

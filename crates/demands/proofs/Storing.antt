@@ -73,12 +73,12 @@ refusal-numbered (Fault e a) = omega arith
 refusal-numbered NoRoom = omega arith
 
 pub numbered : (v : Verdict) → number v ≤ 8
-numbered (Done n b k) = omega arith
+numbered (Done n b k t) = omega arith
 numbered (Refused r) = refusal-numbered r
 
 pub store-keeps : (f : Flags) (m : Machine) (W : ℕ) (mem : List ℕ) (word : ℕ) (buffer : List ℕ) (v : Verdict) (mem′ buffer′ : List ℕ)
     → Stored f m W mem word buffer v mem′ buffer′ → (number v ≡ 0 → ⊥) → (mem′ ≡ mem) × (buffer′ ≡ buffer)
-store-keeps f m W mem word buffer (Done n b k) mem′ buffer′ c h = absurd (h refl)
+store-keeps f m W mem word buffer (Done n b k t) mem′ buffer′ c h = absurd (h refl)
 store-keeps f m W mem word buffer (Refused r) mem′ buffer′ c h = (c .memory, c .patch)
 
 -- ---- the list of active elements
@@ -247,9 +247,9 @@ is-done f m W mem word buffer v mem′ buffer′ c e =
     record { none-due = none-parted 8 rs h .0; answer = c .answer ∙ none-done rs _ h }
 
 pub byte-by-byte : ByteByByte
-byte-by-byte f m W mem word buffer n b k mem′ buffer′ c =
+byte-by-byte f m W mem word buffer n b k t mem′ buffer′ c =
     let es = elementsFor m (decodeOf word) in
-    let d = is-done f m W mem word buffer (Done n b k) mem′ buffer′ c refl in
+    let d = is-done f m W mem word buffer (Done n b k t) mem′ buffer′ c refl in
     let q : mem′ ≡ overlay W mem (netEffect es) =
     c .memory ∙ sym (laid-as-written W mem es (all-inside f m W (length mem) word (d .none-due))) in (
       ap length q ∙ length-overlay W mem (netEffect es),
@@ -260,8 +260,8 @@ byte-by-byte f m W mem word buffer n b k mem′ buffer′ c =
     )
 
 pub counts-of-done : CountsOfDone
-counts-of-done f m W mem word buffer n b k mem′ buffer′ s c e =
-    let d = is-done f m W mem word buffer (Done n b k) mem′ buffer′ c refl in
-    let q : Done n b k ≡ doneOf (elements m s) (sizeOf (classFor s)) =
+counts-of-done f m W mem word buffer n b k t mem′ buffer′ s c e =
+    let d = is-done f m W mem word buffer (Done n b k t) mem′ buffer′ c refl in
+    let q : Done n b k t ≡ doneOf (elements m s) (sizeOf (classFor s)) =
     d .answer ∙ ap (λ (x : Decoded). doneOf (elementsFor m x) (sizeFor x)) e in
-    (cc, cc, cc)
+    (cc, cc, cc, cc)

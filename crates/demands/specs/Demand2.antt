@@ -17,7 +17,7 @@ use Rattle.encoding.specs.declared.Encoded.the-variants as E
 use Rattle.encoding.specs.declared.Store.{Store}
 use Rattle.codec.specs.Codec.{encodedAnswers}
 use Rattle.codec.specs.Statements.{EncodesDecodedNumbers, DecodesEncodedNumbers, RefusesNumbers}
-use Rattle.writes.specs.Elements.{Element, lastAt}
+use Rattle.writes.specs.Elements.{Element, lastAt, stepsOf}
 use Rattle.writes.specs.Encoding.{PatchOf}
 use Rattle.writes.specs.Sets.{ByteWrite, Run, run, runs}
 use Rattle.writes.specs.Statements.{Among}
@@ -67,17 +67,18 @@ ElementBytes =
 -- at each offset in the window the memory after a done store has the byte of the last active element that covers it, or the old byte
 abbrev pub ByteByByte : Type 0
 ByteByByte =
-    (f : Flags) (m : Machine) (W : ℕ) (mem : List ℕ) (word : ℕ) (buffer : List ℕ) (n b k : ℕ) (mem′ buffer′ : List ℕ)
-    → Stored f m W mem word buffer (Done n b k) mem′ buffer′
+    (f : Flags) (m : Machine) (W : ℕ) (mem : List ℕ) (word : ℕ) (buffer : List ℕ) (n b k t : ℕ) (mem′ buffer′ : List ℕ)
+    → Stored f m W mem word buffer (Done n b k t) mem′ buffer′
     → (length mem′ ≡ length mem)
     × ((i : ℕ) → i < length mem → getD mem′ i 0 ≡ Option·getD (lastAt (W + i) (elementsFor m (decodeOf word))) (getD mem i 0))
 
--- done counts the active elements, msize/8 bytes for each, and the patch's bytes
+-- done counts the active elements, msize/8 bytes for each, the patch's bytes, and the steps
 abbrev pub CountsOfDone : Type 0
 CountsOfDone =
-    (f : Flags) (m : Machine) (W : ℕ) (mem : List ℕ) (word : ℕ) (buffer : List ℕ) (n b k : ℕ) (mem′ buffer′ : List ℕ) (s : Store)
-    → Stored f m W mem word buffer (Done n b k) mem′ buffer′ → decodeOf word ≡ D.Known s
+    (f : Flags) (m : Machine) (W : ℕ) (mem : List ℕ) (word : ℕ) (buffer : List ℕ) (n b k t : ℕ) (mem′ buffer′ : List ℕ) (s : Store)
+    → Stored f m W mem word buffer (Done n b k t) mem′ buffer′ → decodeOf word ≡ D.Known s
     → (n ≡ length (elements m s)) × (b ≡ length (elements m s) * sizeOf (classFor s)) × (k ≡ length (patchOf (elements m s)))
+    × (t ≡ stepsOf (elements m s))
 
 -- ---- refusals
 
@@ -154,7 +155,7 @@ OutsideNamesTheLowest =
 -- the six numbers: "Done [..] has zeros as its detail; a refusal's counts and lengths are 0."; zeros for all refusals but 7
 abbrev pub StoringReturns : Type 0
 StoringReturns =
-    ((n b k : ℕ) → numbers (Done n b k) ≡ 0 ∷ 0 ∷ n ∷ b ∷ k ∷ 0 ∷ [])
+    ((n b k t : ℕ) → numbers (Done n b k t) ≡ 0 ∷ 0 ∷ n ∷ b ∷ k ∷ t ∷ [])
     × ((e a : ℕ) → numbers (Refused (Fault e a)) ≡ e ∷ a ∷ 0 ∷ 0 ∷ 0 ∷ 0 ∷ [])
     × ((v : Verdict) → (number v ≡ 0 → ⊥) → (number v ≡ 7 → ⊥) → numbers v ≡ 0 ∷ 0 ∷ 0 ∷ 0 ∷ 0 ∷ 0 ∷ [])
 
@@ -194,7 +195,7 @@ pub record Demand2 : Type 0 where
   pub ascending : InAscendingOrder
   pub byte-by-byte : ByteByByte
   -- "Done reports the number of active elements and the number of bytes moved, the first times msize/8."; "besides the two counts, the
-  -- patch's length" (document 01)
+  -- patch's length" (document 01); "The steps are counted" (document 02 (iv))
   pub counts : CountsOfDone
   -- "Each refusal is given exactly when document 01 says.": the lines of its table have its numbers, its order and its conditions, and
   -- the first that is given decides

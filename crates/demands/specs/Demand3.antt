@@ -60,9 +60,10 @@ pub record HandsOut (f : Flags) (m : Machine) (W : ℕ) (mem : List ℕ) (word :
   pub elements : ℕ
   pub bytes : ℕ
   pub size : ℕ
+  pub steps : ℕ
   pub memory : List ℕ
   pub after : List ℕ
-  pub stored : Stored f m W mem word buffer (Done elements bytes size) memory after
+  pub stored : Stored f m W mem word buffer (Done elements bytes size steps) memory after
   pub string : s ≡ take size after
 
 -- a call on `mem`, in some buffer with room, leaves mem′
@@ -112,8 +113,8 @@ HasAPatch =
 -- "After a done, bytes of the buffer behind the patch are unchanged."
 abbrev pub KeepsBehind : Type 0
 KeepsBehind =
-    (f : Flags) (m : Machine) (W : ℕ) (mem : List ℕ) (word : ℕ) (buffer : List ℕ) (n b k : ℕ) (mem′ buffer′ : List ℕ)
-    → Stored f m W mem word buffer (Done n b k) mem′ buffer′ → drop k buffer′ ≡ drop k buffer
+    (f : Flags) (m : Machine) (W : ℕ) (mem : List ℕ) (word : ℕ) (buffer : List ℕ) (n b k t : ℕ) (mem′ buffer′ : List ℕ)
+    → Stored f m W mem word buffer (Done n b k t) mem′ buffer′ → drop k buffer′ ≡ drop k buffer
 
 -- on whatever fillings and in whatever buffers the two strings are handed out
 abbrev pub SamePatches : Type 0

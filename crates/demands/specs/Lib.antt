@@ -2,3 +2,5 @@
 pub mod Demand1
 pub mod Demand2
 pub mod Demand3
+-- and the sentences of document 02 that aren't theirs
+pub mod Steps

@@ -238,7 +238,7 @@ fn refused(r: Refusal) {
     }
 }
 
-// "NAME: N elements, B bytes, a patch of K bytes, done", or the verdict's number with its detail.
+// "NAME: N elements, B bytes, a patch of K bytes, S steps, done", or the verdict's number with its detail.
 fn stored(name: &[u8], v: Verdict) {
     say(name);
     match v {
@@ -246,10 +246,12 @@ fn stored(name: &[u8], v: Verdict) {
             elements,
             bytes,
             length,
+            steps,
         } => {
             number(elements as usize, b" elements, ");
             number(bytes as usize, b" bytes, a patch of ");
-            number(length as usize, b" bytes, done\n");
+            number(length as usize, b" bytes, ");
+            number(steps as usize, b" steps, done\n");
         }
         Verdict::Refused { refusal } => refused(refusal),
     }

@@ -47,6 +47,7 @@ pub fn number_of(v: Verdict) -> u64
             elements: _,
             bytes: _,
             length: _,
+            steps: _,
         } => 0,
         Verdict::Refused { refusal } => refusal_number(refusal),
     }
@@ -68,7 +69,7 @@ fn detail_of(r: Refusal) -> [u64; 2]
     }
 }
 
-// Element and address of the detail, active elements, bytes, the patch's length, zero.
+// Element and address of the detail, active elements, bytes, the patch's length, steps.
 pub fn answers_of(v: Verdict) -> [u64; 6]
     ensures { λ a. ⌜ a ≡ numbers v ⌝ }
 {
@@ -77,7 +78,8 @@ pub fn answers_of(v: Verdict) -> [u64; 6]
             elements,
             bytes,
             length,
-        } => [0, 0, elements, bytes, length, 0],
+            steps,
+        } => [0, 0, elements, bytes, length, steps],
         Verdict::Refused { refusal } => {
             let detail = detail_of(refusal);
             [detail[0], detail[1], 0, 0, 0, 0]

@@ -7,7 +7,7 @@ use Prim.Native.Nat.{ℕ, _*_, _≤_, _<_}
 use lib.Dec.{ltb}
 use lib.ListN.{length, drop}
 use borrow.Author.Tests.{lt-ltb, le-ltb}
-use Rattle.writes.specs.Elements.{Element, written}
+use Rattle.writes.specs.Elements.{Element, written, stepsOf}
 use Rattle.elements.specs.Machine.{Machine}
 use Rattle.verdicts.specs.Verdicts.{patchOf, firstOutside, found, faultOf, doneOf, verdictOf}
 use Rattle.checks.specs.Checking.{concluded, Passed}
@@ -48,12 +48,13 @@ module _ (W size : ℕ) (mem buffer : List ℕ) (es : List Element) where
           patch = refl;
         }
 
-    pub stored-done : (n b k : ℕ) (mem′ buffer′ : List ℕ) → n ≡ length es → b ≡ length es * size → k ≡ length (patchOf es)
-        → length (patchOf es) ≤ length buffer → mem′ ≡ written W mem es → buffer′ ≡ patchOf es ++ drop (length (patchOf es)) buffer
-        → StoredOf W size mem buffer es (Done n b k) mem′ buffer′
-    stored-done n b k mem′ buffer′ en eb ek h em eo =
+    pub stored-done : (n b k s : ℕ) (mem′ buffer′ : List ℕ) → n ≡ length es → b ≡ length es * size → k ≡ length (patchOf es)
+        → s ≡ stepsOf es → length (patchOf es) ≤ length buffer → mem′ ≡ written W mem es
+        → buffer′ ≡ patchOf es ++ drop (length (patchOf es)) buffer
+        → StoredOf W size mem buffer es (Done n b k s) mem′ buffer′
+    stored-done n b k s mem′ buffer′ en eb ek es′ h em eo =
         record {
-          answer = (λ i. Done (en i) (eb i) (ek i))
+          answer = (λ i. Done (en i) (eb i) (ek i) (es′ i))
               ∙ sym (past-7 ∙ ap (by none) (le-ltb (length buffer) (length (patchOf es)) h));
           memory = em;
           patch = eo;

@@ -15,13 +15,13 @@ use Rattle.verdicts.specs.declared.Verdict.the-variants.{Done, Refused}
 -- the elements written in turn where the verdict is done, else as it came: "Arm lets a faulting store have written part; ours has
 -- written nothing."
 abbrev pub memoryAfter : Verdict → ℕ → List ℕ → List Element → List ℕ
-memoryAfter (Done n b k) W mem es = written W mem es
+memoryAfter (Done n b k s) W mem es = written W mem es
 memoryAfter (Refused r) W mem es = mem
 
 -- the patch is "the buffer's first bytes, as many as the reported length"; "After a done, bytes of the buffer behind the patch are
 -- unchanged."
 abbrev pub bufferAfter : Verdict → List ℕ → List ℕ → List ℕ
-bufferAfter (Done n b k) patch buffer = patch ++ drop (length patch) buffer
+bufferAfter (Done n b k s) patch buffer = patch ++ drop (length patch) buffer
 bufferAfter (Refused r) patch buffer = buffer
 
 -- a call on flags f and machine m, with the window of `mem` at W, a word and a patch buffer: the answer, and memory and buffer at exit
@@ -33,8 +33,8 @@ pub record Stored (f : Flags) (m : Machine) (W : ℕ) (mem : List ℕ) (word : �
 
 -- ---- document 01's numbers
 
--- element and address of the detail, active elements, bytes moved, the patch's length, and zero: "Done [..] has zeros as its detail; a
--- refusal's counts and lengths are 0."
+-- element and address of the detail, active elements, bytes moved, the patch's length, and the steps: "Done [..] has zeros as its
+-- detail; a refusal's counts and lengths are 0."
 abbrev pub numbers : Verdict → List ℕ
-numbers (Done n b k) = 0 ∷ 0 ∷ n ∷ b ∷ k ∷ 0 ∷ []
+numbers (Done n b k s) = 0 ∷ 0 ∷ n ∷ b ∷ k ∷ s ∷ []
 numbers (Refused r) = detail r ++ (0 ∷ 0 ∷ 0 ∷ 0 ∷ [])

@@ -10,6 +10,7 @@ use Rattle.encoding.specs.Decoding.{decodeOf}
 use Rattle.window.specs.LittleEndian.{Bytes}
 use Rattle.window.proofs.Order.{absurdly}
 use Rattle.writes.proofs.Statements.{encoding-length}
+use Rattle.writes.specs.Elements.{stepsOf}
 use Rattle.elements.specs.Machine.{Machine}
 use Rattle.verdicts.specs.Verdicts.{elementsFor, sizeFor, patchOf, number}
 use Rattle.verdicts.specs.declared.Flags.{Flags}
@@ -28,7 +29,7 @@ use Rattle.replaying.specs.Calls.{AppliedIf, ThenApplied, lengthOf, Repl
 
 -- a length other than 0 is a done store's
 done-by : (v : Verdict) → (lengthOf v ≡ 0 → ⊥) → number v ≡ 0
-done-by (Done n b k) h = refl
+done-by (Done n b k t) h = refl
 done-by (Refused x) h = absurd (h refl)
 
 module _ (f : Flags) (m : Machine) (W : ℕ) (mem : List ℕ) (word : ℕ) (buffer : List ℕ) (v : Verdict) (mem′ buffer′ : List ℕ)
@@ -57,6 +58,7 @@ module _ (f : Flags) (m : Machine) (W : ℕ) (mem : List ℕ) (word : ℕ) (buff
           elements = length es;
           bytes = length es * sizeFor (decodeOf word);
           size = length (patchFor m word);
+          steps = stepsOf es;
           memory = mem′;
           after = buffer′;
           stored =
@@ -80,11 +82,11 @@ if-refused a o h = record { answer = a; outcome = o; done = (λ t. absurdly cc, 
 
 then-applied : (v : Verdict) (W : ℕ) (buffer target : List ℕ) (r : Bool) (target′ : List ℕ) → (lengthOf v ≡ 0 → ⊥)
     → AppliedIf W target (take (lengthOf v) buffer) r target′ → ThenApplied v W buffer target r target′
-then-applied (Done n b k) W buffer target r target′ h a = a
+then-applied (Done n b k t) W buffer target r target′ h a = a
 then-applied (Refused x) W buffer target r target′ h a = absurd (h refl)
 
 none-applied : (v : Verdict) (W : ℕ) (buffer target : List ℕ) → (number v ≡ 0 → ⊥) → ThenApplied v W buffer target false target
-none-applied (Done n b k) W buffer target h = absurd (h refl)
+none-applied (Done n b k t) W buffer target h = absurd (h refl)
 none-applied (Refused x) W buffer target h = (refl, refl)
 
 module _ (f : Flags) (m : Machine) (W : ℕ) (mem other target : List ℕ) (word : ℕ) (buffer scratch : List ℕ) (v v₁ : Verdict)

@@ -27,7 +27,7 @@ pub record AppliedIf (W : ℕ) (m s : List ℕ) (r : Bool) (m′ : List ℕ) : T
 -- where a store was done, its patch was applied to the window of `target` at W, and the answer says whether that was done; otherwise
 -- nothing was applied
 abbrev pub ThenApplied : Verdict → ℕ → List ℕ → List ℕ → Bool → List ℕ → Type 0
-ThenApplied (Done n b k) W buffer target r target′ = AppliedIf W target (take k buffer) r target′
+ThenApplied (Done n b k t) W buffer target r target′ = AppliedIf W target (take k buffer) r target′
 ThenApplied (Refused x) W buffer target r target′ = (r ≡ false) × (target′ ≡ target)
 
 -- a store over the window of `mem`, the same store over that of `other`, and the first one's patch applied to that of `target`
@@ -45,7 +45,7 @@ pub record Replayed (f : Flags) (m : Machine) (W : ℕ) (mem other target : List
 
 -- the reported length; 0 where a store is refused
 abbrev pub lengthOf : Verdict → ℕ
-lengthOf (Done n b k) = k
+lengthOf (Done n b k t) = k
 lengthOf (Refused x) = 0
 
 -- two stores over windows at one address, and their patches compared

@@ -48,6 +48,7 @@ fn length_of(verdict: Verdict) -> usize
             elements: _,
             bytes: _,
             length,
+            steps: _,
         } => length as usize,
         Verdict::Refused { refusal: _ } => 0,
     }

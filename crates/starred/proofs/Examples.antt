@@ -12,7 +12,7 @@ use Rattle.encoding.specs.Encoding.{rowOf}
 use Rattle.encoding.proofs.Tests.{every}
 use Rattle.window.specs.LittleEndian.{Bytes, leVal, leBytes}
 use Rattle.writes.specs.Sets.{join, runs, writesAt}
-use Rattle.writes.specs.Elements.{below, from, splice, spliceAll}
+use Rattle.writes.specs.Elements.{below, from, splice, spliceAll, stepsFrom}
 use Rattle.writes.specs.Encoding.{runThen, runsThen, trailer, encodeRuns, encode}
 use Rattle.writes.specs.Examples.{examplePatch}
 use Rattle.window.specs.Window.{windowOk, inWindow}
@@ -55,10 +55,10 @@ unfolding classes classAt position any everyBelow inside belongs has storeOf ind
     elements patchOf spliceAll splice below from writesAt encode encodeRuns runsThen runThen trailer runs join leBytes
 strings = (refl, refl, refl)
 
-counted : verdictOf plain first 0x1000 6 word 31 ≡ Done 4 4 31
+counted : verdictOf plain first 0x1000 6 word 31 ≡ Done 4 4 31 3
 unfolding classes classAt position any everyBelow inside belongs has storeOf indexOf decodeOf rowOf leVal windowOk inWindow bitAt activeAt
     elementAt actives elements patchOf spliceAll splice below from writesAt encode encodeRuns runsThen runThen trailer runs join leBytes
-    lengthOk registersOk firstOutside decided verdictOf
+    lengthOk registersOk firstOutside decided verdictOf stepsFrom
 counted = refl
 
 largest-due : NoneDue streaming largest 0x1000 1024 0xA160E000

@@ -122,11 +122,11 @@ scatter c x = D.Known (Scatter (record { class = c; zm = 1; extension = x; pg = 
 unfoldable pub cases : List Case
 cases =
     -- "A16F6000: multiple −2; with base 1000h it starts at 0FE0h."
-    case 0xA16F6000 streaming full 0x0FE0 32 (strided 10 (negsuc 1) 0) (Done 4 32 48) (rows 0 ++ rows 8) 0
+    case 0xA16F6000 streaming full 0x0FE0 32 (strided 10 (negsuc 1) 0) (Done 4 32 48 1) (rows 0 ++ rows 8) 0
     -- "A168E000: multiple −32."
-    ∷ case 0xA168E000 streaming full 0x0E00 64 (strided 11 (negsuc 31) 0) (Done 8 64 80) (rows 0 ++ (rows 4 ++ (rows 8 ++ rows 12))) 0
+    ∷ case 0xA168E000 streaming full 0x0E00 64 (strided 11 (negsuc 31) 0) (Done 8 64 80 1) (rows 0 ++ (rows 4 ++ (rows 8 ++ rows 12))) 0
     -- "A1206010: registers 16 and 24."
-    ∷ case 0xA1206010 streaming full 0x9000 32 (strided 8 (pos 0) 16) (Done 4 32 48) (row 100 ++ row 200) 0
+    ∷ case 0xA1206010 streaming full 0x9000 32 (strided 8 (pos 0) 16) (Done 4 32 48 1) (row 100 ++ row 200) 0
     -- "A120E004, A1206008 and E4208000 are undefined here."
     ∷ case 0xA120E004 streaming full 0x1000 8 D.Undefined (Refused Undefined) (replicate 8 0) 0
     ∷ case 0xA1206008 streaming full 0x1000 8 D.Undefined (Refused Undefined) (replicate 8 0) 0
@@ -137,15 +137,16 @@ cases =
     -- "Class 1 with UXTW gives 800000FC0h."
     ∷ case 0xE5A18000 plain (on low 0 0) 0 0 (scatter 1 Uxtw) (Refused (Fault 0 0x800000FC0)) [] 0
     -- "Class 3, base 1000h, offset 2000000000000001h: address 1008h."
-    ∷ case 0xE5A1A000 plain (on high 0 0) 0x1008 8 (scatter 3 None) (Done 1 8 24) (take 8 (rows 0)) 0
+    ∷ case 0xE5A1A000 plain (on high 0 0) 0x1008 8 (scatter 3 None) (Done 1 8 24 1) (take 8 (rows 0)) 0
     -- "Counters over two registers: 0018h element 0"
-    ∷ case 0xA1606000 streaming (on zeros 0x18 0x00) 0x1000 32 (strided 10 (pos 0) 0) (Done 1 8 24) (placedAt 32 0 (take 8 (rows 0))) 1
+    ∷ case 0xA1606000 streaming (on zeros 0x18 0x00) 0x1000 32 (strided 10 (pos 0) 0) (Done 1 8 24 1) (placedAt 32 0 (take 8 (rows 0))) 1
     -- "8038h element 3"
-    ∷ case 0xA1606000 streaming (on zeros 0x38 0x80) 0x1000 32 (strided 10 (pos 0) 0) (Done 1 8 24) (placedAt 32 24 (drop 8 (rows 8))) 3
+    ∷ case 0xA1606000 streaming (on zeros 0x38 0x80) 0x1000 32 (strided 10 (pos 0) 0) (Done 1 8 24 1)
+    (placedAt 32 24 (drop 8 (rows 8))) 3
     -- "8000h none"
-    ∷ case 0xA1606000 streaming (on zeros 0x00 0x80) 0x1000 32 (strided 10 (pos 0) 0) (Done 0 0 4) (replicate 32 0) 0
+    ∷ case 0xA1606000 streaming (on zeros 0x00 0x80) 0x1000 32 (strided 10 (pos 0) 0) (Done 0 0 4 0) (replicate 32 0) 0
     -- "0013h (byte count 9) elements 0 and 1"
-    ∷ case 0xA1606000 streaming (on zeros 0x13 0x00) 0x1000 32 (strided 10 (pos 0) 0) (Done 2 16 32) (placedAt 32 0 (rows 0)) 9
+    ∷ case 0xA1606000 streaming (on zeros 0x13 0x00) 0x1000 32 (strided 10 (pos 0) 0) (Done 2 16 32 1) (placedAt 32 0 (rows 0)) 9
     ∷ []
 
 -- ---- what the definitions say

@@ -42,8 +42,9 @@ Hands m L s = (mem buffer : List ℕ) → Filling L mem → length s ≤ length 
 pub record WholeExample : Type 0 where
   pub first-done : DoneOver plain first 0x1000 6 word
   pub second-done : DoneOver plain second 0x1000 6 word
-  -- "Four elements, four bytes moved, and the patch is 31 bytes", in a buffer of just as many
-  pub counted : verdictOf plain first 0x1000 6 word 31 ≡ Done 4 4 31
+  -- "Four elements, four bytes moved, and the patch is 31 bytes", in a buffer of just as many; of the four, one starts where the one
+  -- before it ends: three steps
+  pub counted : verdictOf plain first 0x1000 6 word 31 ≡ Done 4 4 31 3
   pub first-patch : Hands first 6 examplePatch
   -- the second store gives "the same patch", so that both leave the same memory from every filling
   pub second-patch : Hands second 6 examplePatch

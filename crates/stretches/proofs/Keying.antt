@@ -1,16 +1,19 @@
 -- The stretches of elements: in ascending order they cover what the elements write, and no other address. Assumes nothing.
 use mathlib.Core.Path.{_≡_, refl, sym, ap, ap₂, _∙_, subst}
 use Prim.Native.Nat.{ℕ, suc, _+_, _-_, _*_, _≤_, _<_}
-use mathlib.Core.Bool.{Bool, true, false}
+use mathlib.Core.Bool.{Bool, true, false, cond}
 use mathlib.Core.List.{List, [], _∷_}
 use native.Mathlib.Omega.{arith}
+use mathlib.Core.Option.{some}
+use lib.Dec.{eqb}
 use lib.ListN.{length}
+use borrow.Author.Tests.{eq-eqb, ne-eqb, eqb-true, eqb-false}
 use Rattle.writes.specs.Sets.{ByteWrite, lookup}
-use Rattle.writes.specs.Elements.{Element, splice, spliceAll, netEffect}
+use Rattle.writes.specs.Elements.{Element, splice, spliceAll, netEffect, stepsFrom, stepsOf}
 use Rattle.writes.proofs.Net.{lookup-splice}
 use Rattle.ordering.specs.Keys.{numberOf, sorted, Each, Distinct}
 use Rattle.stretches.proofs.Covering.{among, or, or-swap, or-assoc, covered, isSome, some-writesAt, some-or}
-use Rattle.stretches.specs.Stretches.{startOf, bytesOf, endOf, Seen, keyOf, keysOf, joined, merged, sum, Rising}
+use Rattle.stretches.specs.Stretches.{startOf, bytesOf, endOf, Seen, keyOf, keysOf, joinedFrom, joined, merged, sum, Rising}
 use Rattle.stretches.proofs.Merging as merging
 use Rattle.stretches.proofs.Joined.{Numbers, sum-joined, inside-joined, numbers-joined, distinct-numbers, some-joined}
 use Rattle.stretches.proofs.Joined.{some-sorted, sum-sorted, rising-sorted}
@@ -58,6 +61,50 @@ module _ (W L size : ℕ) (o : 1 ≤ size) (w : size ≤ 256) where
   unfolding keysOf
   length-keys [] = refl
   length-keys (x ∷ xs) = ap suc (length-keys xs)
+
+  -- a key starts where the one before ends exactly where its element does
+  meets : (a b p e : ℕ) → p < 256 → e < 256 → W ≤ a → W ≤ b
+      → eqb (startOf (keyOf (a - W) size p) + size) (startOf (keyOf (b - W) size e)) ≡ eqb (a + size) b
+  meets a b p e hp he ha hb =
+      ap₂ (λ (x y : ℕ). eqb (x + size) y) (key-start (a - W) size p o w hp) (key-start (b - W) size e o w he) ∙ shifted
+    where
+      shifted : eqb (a - W + size) (b - W) ≡ eqb (a + size) b
+      shifted = go (eqb (a + size) b) refl
+        where
+          go : (t : Bool) → eqb (a + size) b ≡ t → eqb (a - W + size) (b - W) ≡ t
+          go true q = eq-eqb (a - W + size) (b - W) (omega (arith, eqb-true (a + size) b q))
+          go false q = ne-eqb (a - W + size) (b - W) (λ r. eqb-false (a + size) b q (omega arith))
+
+  joined-steps : (f s : ℕ) (x : Element) (xs : List Element) → x .number < 256 → W ≤ x .address → length (x .bytes) ≡ size
+      → Seen W L size f xs
+      → length (joinedFrom size s (keyOf (x .address - W) size (x .number)) (keysOf W size xs))
+      ≡ suc (stepsFrom (some (x .address + length (x .bytes))) xs)
+  unfolding keysOf joinedFrom stepsFrom
+  joined-steps f s x [] h l n t = refl
+  joined-steps f s x (y ∷ ys) h l n t =
+      let k = keyOf (x .address - W) size (x .number) in
+      let j = keyOf (y .address - W) size (y .number) in
+      let K = keysOf W size ys in
+      let b = eqb (x .address + size) (y .address) in
+      let rest = stepsFrom (some (y .address + length (y .bytes))) ys in
+      let r : (s′ : ℕ) → length (joinedFrom size s′ j K) ≡ suc rest =
+      λ s′. joined-steps (suc (y .number)) s′ y ys (t .1) (t .2) (t .4) (t .5) in
+      ap (λ (c : Bool). length (cond c (joinedFrom size (s + size * 256) j K) (s ∷ joinedFrom size j j K)))
+      (meets (x .address) (y .address) (x .number) (y .number) h (t .1) l (t .2))
+      ∙ go b (joinedFrom size (s + size * 256) j K) (joinedFrom size j j K) rest (r (s + size * 256)) (r j)
+      ∙ ap (λ (z : ℕ). suc (cond (eqb (x .address + z) (y .address)) 0 1 + rest)) (sym n)
+    where
+      go : (c : Bool) (A B : List ℕ) (q : ℕ) → length A ≡ suc q → length B ≡ suc q → length (cond c A (s ∷ B)) ≡ suc (cond c 0 1 + q)
+      go true A B q e d = omega arith
+      go false A B q e d = omega arith
+
+  -- as many stretches as steps
+  pub stretches-steps : (es : List Element) → Seen W L size 0 es → length (joined size (keysOf W size es)) ≡ stepsOf es
+  unfolding keysOf joined stepsFrom
+  stretches-steps [] t = refl
+  stretches-steps (x ∷ xs) t =
+      let k = keyOf (x .address - W) size (x .number) in
+      omega (arith, joined-steps (suc (x .number)) k x xs (t .1) (t .2) (t .4) (t .5))
 
   keys-covered : (f x : ℕ) (S : List ByteWrite) (es : List Element) → Seen W L size f es
       → or (merging.some W x (keysOf W size es)) (isSome (lookup x S)) ≡ isSome (lookup x (spliceAll S es))

@@ -9,14 +9,14 @@ use lib.ListN.{length, drop}
 use Rattle.window.specs.LittleEndian.{Bytes}
 use Rattle.writes.specs.Sets.{ByteWrite, run, lookup, writesAt, writesOf}
 use Rattle.writes.specs.Encoding.{encodeRuns, encode}
-use Rattle.writes.specs.Elements.{Element, written, below, from, splice, spliceAll, netEffect}
+use Rattle.writes.specs.Elements.{Element, written, below, from, splice, spliceAll, netEffect, stepsFrom, stepsOf}
 use Rattle.window.specs.Overwriting.{overwritten}
 use Rattle.window.specs.Window.{windowOk}
 use Rattle.window.proofs.Windows.{window-inv}
 use Rattle.elements.specs.Accesses.{StridedSound, stridedAddress, stridedElements, stridedBytes}
 use Rattle.elements.specs.declared.StridedAccess.{StridedAccess}
 use Rattle.accesses.proofs.Sizes.{active-long}
-use Rattle.accesses.proofs.Joined.{strided-count, strided-bytes, strided-some, strided-bounds, strided-written, strided-net}
+use Rattle.accesses.proofs.Joined.{strided-count, strided-bytes, strided-some, strided-bounds, strided-written, strided-net, strided-steps}
 use Rattle.stretches.specs.Intervals.{Interval, interval, Separate, total}
 use Rattle.stretches.proofs.Covering.{or, among, covered, isSome, some-writesAt}
 use Rattle.cutting.specs.Cutting.{cut, spaced, Fits}
@@ -43,11 +43,12 @@ module _ (W : ℕ) (mem : List ℕ) (t : W + length mem ≤ 2 ^ 64) (b : Bytes m
   unfolding firstOutside
   none-short size out h = stored-short W size mem out [] refl (omega (arith, none-length))
 
-  pub none-done : (size gap s r : ℕ) (out out′ : List ℕ) → 4 ≤ length out → r ≡ total (spaced 0 gap s 0) + 4
-      → out′ ≡ overwritten out 0 (encodeRuns (cut W mem (spaced 0 gap s 0))) → StoredOf W size mem out [] (Done 0 0 r) mem out′
-  unfolding firstOutside written spaced total patchOf
-  none-done size gap s r out out′ h er eo =
-      stored-done W size mem out [] refl 0 0 r mem out′ refl (omega arith) (omega (arith, none-length)) (omega (arith, none-length)) refl
+  pub none-done : (size gap s r p : ℕ) (out out′ : List ℕ) → 4 ≤ length out → r ≡ total (spaced 0 gap s 0) + 4 → p ≡ 0
+      → out′ ≡ overwritten out 0 (encodeRuns (cut W mem (spaced 0 gap s 0))) → StoredOf W size mem out [] (Done 0 0 r p) mem out′
+  unfolding firstOutside written spaced total patchOf stepsFrom
+  none-done size gap s r p out out′ h er ep eo =
+      stored-done W size mem out [] refl 0 0 r p mem out′ refl (omega arith) (omega (arith, none-length)) ep
+      (omega (arith, none-length)) refl
       (made-buffer W mem [] [] t b tt tt none-covered mem out out′ refl eo)
 
 -- ---- one element
@@ -132,19 +133,23 @@ module _ (s : StridedAccess) (vb : ℕ) (o : StridedSound s vb) (z : List ℕ) (
   pub strided-length : length (patchOf es) ≡ bytes + 16
   strided-length = ap length same-patch ∙ one-length W mem all (window .1) b fits (strided-some s vb o z q h) ∙ ap (λ (k : ℕ). k + 16) long
 
+  one-step : stepsOf es ≡ 1
+  one-step = strided-steps s vb o z q W (length mem) (window .0) (window .1) (inside-all W (length mem) es n) h
+
   pub strided-short : (out : List ℕ) → length out < bytes + 16 → StoredOf W (s .size) mem out es (Refused NoRoom) mem out
   strided-short out l = stored-short W (s .size) mem out es n (omega (arith, strided-length))
 
-  pub strided-done : (k c r at gap : ℕ) (mem′ out out′ : List ℕ) → bytes + 16 ≤ length out → k ≡ s .high - s .low → c ≡ bytes
+  pub strided-done : (k c r p at gap : ℕ) (mem′ out out′ : List ℕ) → bytes + 16 ≤ length out → k ≡ s .high - s .low → c ≡ bytes
       → at ≡ stridedAddress s (s .low) - W → mem′ ≡ overwritten mem at (stridedBytes s vb z) → r ≡ total (spaced at gap bytes 1) + 4
-      → out′ ≡ overwritten out 0 (encodeRuns (cut W mem′ (spaced at gap bytes 1))) → StoredOf W (s .size) mem out es (Done k c r) mem′ out′
+      → p ≡ 1 → out′ ≡ overwritten out 0 (encodeRuns (cut W mem′ (spaced at gap bytes 1)))
+      → StoredOf W (s .size) mem out es (Done k c r p) mem′ out′
   unfolding spaced total written
-  strided-done k c r at gap mem′ out out′ room ek ec ea em er eo =
+  strided-done k c r p at gap mem′ out out′ room ek ec ea em er ep eo =
       let count = strided-count s vb o z in
       let w : mem′ ≡ overwritten mem (stridedAddress s (s .low) - W) (stridedBytes s vb z) =
       em ∙ ap (λ (y : ℕ). overwritten mem y (stridedBytes s vb z)) ea in
-      stored-done W (s .size) mem out es n k c r mem′ out′ (ek ∙ sym count) (ec ∙ ap (λ (y : ℕ). y * s .size) (sym count))
-      (omega (arith, strided-length)) (omega (arith, strided-length)) (w ∙ sym strided-written-as)
+      stored-done W (s .size) mem out es n k c r p mem′ out′ (ek ∙ sym count) (ec ∙ ap (λ (y : ℕ). y * s .size) (sym count))
+      (omega (arith, strided-length)) (ep ∙ sym one-step) (omega (arith, strided-length)) (w ∙ sym strided-written-as)
       (one-buffer W mem all (window .1) b fits (strided-some s vb o z q h) mem′ out out′ w
       (eo ∙ (λ i. overwritten out 0 (encodeRuns (cut W mem′ (interval (ea i) (sym long i) ∷ [])))))
-      ∙ ap (λ (p : List ℕ). p ++ drop (length p) out) (sym same-patch))
+      ∙ ap (λ (l : List ℕ). l ++ drop (length l) out) (sym same-patch))

@@ -71,11 +71,12 @@ fn store_none(base: u64, memory: &[u8], patch: &mut [u8]) -> Verdict
             refusal: Refusal::NoRoom,
         };
     }
-    let length = cutting::compose_spaced(base, 0, 1, 1, 0, memory, patch);
+    let composed = cutting::compose_spaced(base, 0, 1, 1, 0, memory, patch);
     Verdict::Done {
         elements: 0,
         bytes: 0,
-        length: length as u64,
+        length: composed.length as u64,
+        steps: composed.steps as u64,
     }
 }
 
@@ -105,11 +106,12 @@ fn finish(
     let at = (elements::strided_address(s, s.low) - base) as usize;
     let to = at + bytes;
     let counts = copying::copy_active(s, vb, z, &mut memory[at..to]);
-    let length = cutting::compose_spaced(base, at, bytes, bytes, 1, memory, patch);
+    let composed = cutting::compose_spaced(base, at, bytes, bytes, 1, memory, patch);
     Verdict::Done {
         elements: counts.elements,
         bytes: counts.bytes,
-        length: length as u64,
+        length: composed.length as u64,
+        steps: composed.steps as u64,
     }
 }
 

@@ -9,13 +9,13 @@ use lib.ListN.{length}
 use borrow.Author.Tests.{leb-false}
 use Rattle.window.specs.LittleEndian.{Bytes}
 use Rattle.writes.specs.Encoding.{encodeRuns, encode}
-use Rattle.writes.specs.Elements.{Element, netEffect, written}
+use Rattle.writes.specs.Elements.{Element, netEffect, written, stepsOf}
 use Rattle.window.specs.Overwriting.{overwritten}
 use Rattle.ordering.specs.Keys.{entries, sorted, Each, Distinct}
 use Rattle.ordering.proofs.Sorting.{length-entries}
 use Rattle.stretches.specs.Intervals.{total}
 use Rattle.stretches.specs.Stretches.{bytesOf, keysOf, joined, merged, sum, Sized, Ordered}
-use Rattle.stretches.proofs.Keying.{keys-sized, length-keys, stretches-distinct}
+use Rattle.stretches.proofs.Keying.{keys-sized, length-keys, stretches-steps, stretches-distinct}
 use Rattle.cutting.specs.Cutting.{cut}
 use Rattle.cutting.proofs.Patched.{patch-ordered, patch-sum, patch-length, patch-made}
 use Rattle.verdicts.specs.Verdicts.{patchOf}
@@ -74,6 +74,11 @@ module _ (W step size : ℕ) (mem stored A : List ℕ) (n : ℕ) (es : List Elem
       long : length (encode (netEffect es)) ≡ total (merged (entries C 0 m)) + 4
       long = patch-length W size mem es (R .top) (R .small) b (R .some) (R .wide) (R .fits) (R .seen) few C m l sorted-are
 
+      -- a stretch is a step
+      steps : m ≡ stepsOf es
+      steps =
+          sym (length-entries B 0 m) ∙ ap length joined-are ∙ stretches-steps W (length mem) size (R .some) (R .wide) es (R .seen)
+
       pub ready-short : (out : List ℕ) → leb (total (merged (entries C 0 m)) + 4) (length out) ≡ false
           → StoredOf W size mem out es (Refused NoRoom) mem out
       unfolding patchOf
@@ -83,11 +88,11 @@ module _ (W step size : ℕ) (mem stored A : List ℕ) (n : ℕ) (es : List Elem
       pub ready-done : (out mem′ out′ : List ℕ) (k b′ r : ℕ) → total (merged (entries C 0 m)) + 4 ≤ length out → k ≡ n → b′ ≡ n * size
           → mem′ ≡ putAll step size stored (entries A 0 n) mem → r ≡ total (merged (entries C 0 m)) + 4
           → out′ ≡ overwritten out 0 (encodeRuns (cut W mem′ (merged (entries C 0 m))))
-          → StoredOf W size mem out es (Done k b′ r) mem′ out′
+          → StoredOf W size mem out es (Done k b′ r m) mem′ out′
       unfolding patchOf
       ready-done out mem′ out′ k b′ r h ek eb em er eo =
-          stored-done W size mem out es (R .inside) k b′ r mem′ out′ (ek ∙ ready-count) (eb ∙ ap (λ (z : ℕ). z * size) ready-count)
-          (er ∙ sym long)
+          stored-done W size mem out es (R .inside) k b′ r m mem′ out′ (ek ∙ ready-count) (eb ∙ ap (λ (z : ℕ). z * size) ready-count)
+          (er ∙ sym long) steps
           (omega (arith, long)) (em ∙ ready-written)
           (patch-made W size mem es (R .top) (R .small) b (R .some) (R .wide) (R .fits) (R .seen) few C m l sorted-are mem′ out out′
           (em ∙ ready-written) eo)

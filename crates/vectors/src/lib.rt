@@ -115,6 +115,7 @@ fn finish(
         elements: counts.elements,
         bytes: counts.bytes,
         length: length as u64,
+        steps: m as u64,
     }
 }
 

@@ -15,7 +15,7 @@ use Rattle.encoding.specs.declared.Decoded.the-variants as D
 use Rattle.encoding.specs.declared.Store.{Store}
 use Rattle.encoding.specs.declared.Store.the-variants.{Scatter, Strided, Quadword}
 use Rattle.writes.specs.Encoding.{encode}
-use Rattle.writes.specs.Elements.{Element, netEffect}
+use Rattle.writes.specs.Elements.{Element, netEffect, stepsOf}
 use Rattle.window.specs.Window.{windowOk, inWindow}
 use Rattle.elements.specs.Machine.{Machine}
 use Rattle.elements.specs.Stores.{sizeOf}
@@ -135,9 +135,9 @@ decided [] done = done
 decided (r ∷ rs) done = cond (r .given) (Refused (r .returned)) (decided rs done)
 
 -- "Done reports the number of active elements and the number of bytes moved, the first times msize/8."; "besides the two counts, the
--- patch's length"
+-- patch's length"; document 02 (iv): "The steps are counted"
 abbrev pub doneOf : List Element → ℕ → Verdict
-doneOf es size = Done (length es) (length es * size) (length (patchOf es))
+doneOf es size = Done (length es) (length es * size) (length (patchOf es)) (stepsOf es)
 
 -- the verdict on a word
 unfoldable pub verdictOf : Flags → Machine → ℕ → ℕ → ℕ → ℕ → Verdict
@@ -158,7 +158,7 @@ refusalNumber NoRoom = 8
 
 -- "Done is number 0"
 abbrev pub number : Verdict → ℕ
-number (Done n b k) = 0
+number (Done n b k s) = 0
 number (Refused r) = refusalNumber r
 
 -- element and address of a refusal's detail: zeros but for 7

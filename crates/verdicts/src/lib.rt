@@ -28,6 +28,7 @@ pub enum Verdict {
         elements: u64,
         bytes: u64,
         length: u64,
+        steps: u64,
     },
     Refused {
         refusal: Refusal,

@@ -17,7 +17,8 @@ pub const COMMAND: Command = Command {
 usage: starshackle patch [--json] [--require-registers] FILE -o OUT
 
 Writes the patch of a store to OUT: applying it leaves what running the store leaves, whatever the
-window's bytes are. Shows the verdict with its detail and counts and the patch's length.
+window's bytes are. Shows the verdict with its detail, the counts that `run` shows, and the patch's
+length.
 All this is the proved model's answer. The note about registers that aren't given is not proved.
 Where the model refuses, OUT is left as it was. OUT may not be FILE.
 
@@ -25,8 +26,8 @@ Where the model refuses, OUT is left as it was. OUT may not be FILE.
         store_help!(),
         "
 With --json the answer is an object. Its keys: verdict, verdict_name, not_given (the note's
-registers), detail (element and address of a fault), active_elements, bytes_moved, length (the
-patch's), patch (its bytes in hexadecimal). They are null where there is nothing to say.
+registers), detail (element and address of a fault), active_elements, bytes_moved, steps, length
+(the patch's), patch (its bytes in hexadecimal). They are null where there is nothing to say.
 
 Exit status: 0 done, 1 refused by the model, 2 bad usage, a file that can't be read or written, or a
 register that is required and not given.

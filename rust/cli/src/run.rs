@@ -22,6 +22,8 @@ usage: starshackle run [--json] [--require-registers] FILE
 Shows the verdict with its detail and counts, the word's store, each element with its state,
 address and bytes, and the window, with the bytes that active elements have written in brackets.
 Of a long window only the lines with written bytes and their neighbours are shown.
+The counts: active elements, bytes moved, and steps, which are the active elements that don't start
+where the active one before them ends.
 All this is the proved model's answer. The assembly text and the note about registers that aren't
 given are not proved.
 
@@ -30,8 +32,9 @@ given are not proved.
         "
 With --json the answer is an object. Its keys: word, verdict, verdict_name, class, class_name,
 fields, counter, assembly (as in `starshackle decode`), not_given (the note's registers), detail
-(element and address of a fault), active_elements, bytes_moved, elements (each with element, active,
-address, bytes), window (address, length, memory). They are null where there is nothing to say.
+(element and address of a fault), active_elements, bytes_moved, steps, elements (each with element,
+active, address, bytes), window (address, length, memory). They are null where there is nothing to
+say.
 
 Exit status: 0 done, 1 refused by the model, 2 bad usage, an unreadable file, or a register that is
 required and not given.

@@ -20,7 +20,8 @@ pub fn text<T>(outcome: &Result<T, Refusal>, counts: impl Fn(&T) -> String) -> S
 
 /// The counts of a store.
 pub fn counts(stored: &Stored) -> String {
-    format!("  active elements {}, bytes moved {}\n", stored.elements, stored.bytes)
+    let Stored { elements, bytes, steps, .. } = stored;
+    format!("  active elements {elements}, bytes moved {bytes}, steps {steps}\n")
 }
 
 /// What a refusal is about, its number, and its address.
@@ -42,13 +43,14 @@ pub fn detail_json<T>(outcome: &Result<T, Refusal>) -> Json {
 }
 
 /// The detail and the counts of a store in JSON.
-pub fn store_members(outcome: &Result<Stored, Refusal>) -> [(&'static str, Json); 3] {
-    let none = Stored { elements: 0, bytes: 0, length: 0 };
-    let Stored { elements, bytes, .. } = outcome.unwrap_or(none);
+pub fn store_members(outcome: &Result<Stored, Refusal>) -> [(&'static str, Json); 4] {
+    let none = Stored { elements: 0, bytes: 0, length: 0, steps: 0 };
+    let Stored { elements, bytes, steps, .. } = outcome.unwrap_or(none);
     [
         ("detail", detail_json(outcome)),
         ("active_elements", elements.into()),
         ("bytes_moved", bytes.into()),
+        ("steps", steps.into()),
     ]
 }
 

@@ -50,7 +50,7 @@ fn there_is_room_for_the_largest_patch() {
     let output = command.arg("run").arg(&store).output().unwrap();
     let text = String::from_utf8(output.stdout).unwrap();
     assert!(
-        text.starts_with("done (verdict 0)\n  active elements 128, bytes moved 1024\n"),
+        text.starts_with("done (verdict 0)\n  active elements 128, bytes moved 1024, steps 1\n"),
         "{text}"
     );
 }

@@ -4,7 +4,7 @@ use crate::report::Report;
 
 /// Something that is counted by number: each of the numbers has to be hit.
 struct Row {
-    name: &'static str,
+    name: String,
     numbers: &'static [u64],
     counts: Vec<u64>,
 }
@@ -12,7 +12,7 @@ struct Row {
 pub struct Counts(Vec<Row>);
 
 impl Counts {
-    pub fn new(rows: impl Iterator<Item = (&'static str, &'static [u64])>) -> Counts {
+    pub fn new(rows: impl Iterator<Item = (String, &'static [u64])>) -> Counts {
         let row = |(name, numbers): (_, &'static [u64])| {
             let counts = vec![0; numbers.len()];
             Row { name, numbers, counts }

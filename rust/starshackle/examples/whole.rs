@@ -3,7 +3,7 @@
 //!     cargo run --release --example whole
 
 use starshackle::{assembly, decode, element, elements, store};
-use starshackle::{Element, Flags, Machine, Patch, Window, LARGEST_STORE_PATCH};
+use starshackle::{Element, Flags, Machine, Patch, Stored, Window, LARGEST_STORE_PATCH};
 use std::error::Error;
 
 /// Vectors of 16 bytes: four elements of 32 bits.
@@ -31,10 +31,11 @@ fn main() -> Result<(), Box<dyn Error>> {
     let (mut memory, mut buffer) = ([0; LENGTH], [0; LARGEST_STORE_PATCH]);
     let window = Window { base: BASE, memory: &mut memory };
     let done = store(&machine, window, WORD, &mut buffer)?;
-    println!("done: {} elements, {} bytes: {memory:02X?}", done.elements, done.bytes);
+    let Stored { elements, bytes, length, steps } = done;
+    println!("done: {elements} elements, {bytes} bytes, {steps} steps: {memory:02X?}");
 
-    let patch = Patch::read(&buffer[..done.length])?;
-    println!("patch of {} bytes", done.length);
+    let patch = Patch::read(&buffer[..length])?;
+    println!("patch of {length} bytes");
     for run in patch.runs() {
         println!("  {:02X?} at {:X}h", run.bytes, run.address);
     }

@@ -114,8 +114,8 @@ extern "C" {
 
 /// Runs a word's store over the window and makes its patch, writes all of `answer` and returns the
 /// verdict's number. The entries: the element of the detail, its address, active elements, bytes
-/// moved, the patch's length, 0. Where it is done, the patch stands in the first bytes of `patch`;
-/// other bytes stay as they were.
+/// moved, the patch's length, steps. Where it is done, the patch stands in the first bytes of
+/// `patch`; other bytes stay as they were.
 ///
 /// ```
 /// use starshackle::{store_numbers, Flags, Machine, Window};

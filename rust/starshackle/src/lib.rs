@@ -37,7 +37,7 @@
 //! let (mut memory, mut buffer) = ([0; 8], [0; LARGEST_STORE_PATCH]);
 //! let window = Window { base: 0x1000, memory: &mut memory };
 //! let done = store(&machine, window, WORD, &mut buffer)?;
-//! assert_eq!(done, Stored { elements: 4, bytes: 4, length: 31 });
+//! assert_eq!(done, Stored { elements: 4, bytes: 4, length: 31, steps: 3 });
 //! assert_eq!(memory, [0xA1, 0xA3, 0, 0, 0, 0xA4, 0, 0]);
 //!
 //! let patch = Patch::read(&buffer[..done.length])?;

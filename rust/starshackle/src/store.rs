@@ -11,6 +11,9 @@ pub struct Stored {
     pub bytes: u64,
     /// How many bytes the patch has.
     pub length: usize,
+    /// How many active elements don't start where the active one before them, the next lower in
+    /// number, ends. The first has none before it and counts.
+    pub steps: u64,
 }
 
 /// Runs the store that a word names and makes its patch: writes every active element to the window,
@@ -38,7 +41,7 @@ pub struct Stored {
 /// let (mut memory, mut buffer) = ([b'.'; 28], [b'.'; 42]);
 /// let window = Window { base: 0, memory: &mut memory };
 /// let done = store(&machine, window, 0xA160_6000, &mut buffer)?;
-/// assert_eq!(done, Stored { elements: 3, bytes: 24, length: 40 });
+/// assert_eq!(done, Stored { elements: 3, bytes: 24, length: 40, steps: 1 });
 /// assert_eq!(&memory, b"0123456789abcdefghijklmn....");
 ///
 /// let patch = Patch::read(&buffer[..done.length])?;
@@ -62,9 +65,9 @@ pub fn store(
 ) -> Result<Stored, Refusal> {
     let mut answer = [0; 6];
     let verdict = store_numbers(machine, window, word, patch, &mut answer);
-    let [element, address, elements, bytes, length, _] = answer;
+    let [element, address, elements, bytes, length, steps] = answer;
     match verdict {
-        0 => Ok(Stored { elements, bytes, length: length as usize }),
+        0 => Ok(Stored { elements, bytes, length: length as usize, steps }),
         verdict => Err(Refusal::answered(verdict, [element, address])),
     }
 }
@@ -75,7 +78,11 @@ mod tests {
     use crate::example::{machine, z, PATCH, SCATTER};
     use crate::{apply, Applied, Flags, LARGEST_STORE_PATCH};
 
-    const DONE: Stored = Stored { elements: 4, bytes: 4, length: PATCH.len() };
+    /// What the example's store has written in so many steps.
+    fn done(steps: u64) -> Result<Stored, Refusal> {
+        Ok(Stored { elements: 4, bytes: 4, length: PATCH.len(), steps })
+    }
+
     /// A byte of a buffer before the call.
     const OLD: u8 = 0x77;
 
@@ -83,18 +90,18 @@ mod tests {
         store(machine, Window { base: 0x1000, memory }, SCATTER, patch)
     }
 
-    /// The whole example's vector registers, and those of its second form.
-    fn forms() -> [Vec<u8>; 2] {
+    /// The whole example's vector registers, and those of its second form, with their steps.
+    fn forms() -> [(Vec<u8>, u64); 2] {
         let first = z([0xA1, 0xA2, 0xA3, 0xA4], [0, 1, 1, 5]);
-        [first, z([0xA3, 0xA1, 0x00, 0xA4], [1, 0, 5, 5])]
+        [(first, 3), (z([0xA3, 0xA1, 0x00, 0xA4], [1, 0, 5, 5]), 4)]
     }
 
     #[test]
     fn stores_that_are_done() {
-        for z in forms() {
+        for (z, steps) in forms() {
             for room in [PATCH.len(), PATCH.len() + 1, LARGEST_STORE_PATCH] {
                 let (mut memory, mut patch) = ([OLD; 8], vec![OLD; room]);
-                assert_eq!(store_at(&machine(&z), &mut memory, &mut patch), Ok(DONE));
+                assert_eq!(store_at(&machine(&z), &mut memory, &mut patch), done(steps));
                 assert_eq!(memory, [0xA1, 0xA3, OLD, OLD, OLD, 0xA4, OLD, OLD]);
                 assert_eq!(patch[..PATCH.len()], PATCH);
                 assert!(patch[PATCH.len()..].iter().all(|byte| *byte == OLD));
@@ -106,10 +113,10 @@ mod tests {
     #[test]
     fn whatever_the_window_holds() {
         let fillings = [[0x00; 8], [0xFF; 8], [0xA1, 0xA3, 0, 0, 0, 0xA4, 0, 0], *b"anything"];
-        for z in forms() {
+        for (z, steps) in forms() {
             for filling in fillings {
                 let (mut memory, mut patch) = (filling, PATCH.map(|byte| !byte));
-                assert_eq!(store_at(&machine(&z), &mut memory, &mut patch), Ok(DONE));
+                assert_eq!(store_at(&machine(&z), &mut memory, &mut patch), done(steps));
                 assert_eq!(patch, PATCH);
                 let mut patched = filling;
                 let window = Window { base: 0x1000, memory: &mut patched };
@@ -119,9 +126,31 @@ mod tests {
         }
     }
 
+    /// Doublewords side by side, with every lane active and with none.
+    #[test]
+    fn a_whole_register_is_a_step() {
+        const ST1D: u32 = 0xE582_A001; // st1d { z1.d }, p0, [x0, z2.d]
+        for vb in [16, 32, 64, 128, 256] {
+            let mut z = vec![0; 32 * vb];
+            for (offset, element) in (0u64..).step_by(8).zip(z[2 * vb..3 * vb].chunks_mut(8)) {
+                element.copy_from_slice(&offset.to_le_bytes());
+            }
+            for active in [true, false] {
+                let p = vec![if active { 0xFF } else { 0 }; 2 * vb];
+                let machine = Machine { vb, flags: Flags::SVE, z: &z, p: &p, ..Machine::default() };
+                let (mut memory, mut patch) = (vec![OLD; vb], vec![OLD; LARGEST_STORE_PATCH]);
+                let window = Window { base: 0, memory: &mut memory };
+                let (elements, bytes) = if active { (vb as u64 / 8, vb as u64) } else { (0, 0) };
+                let (length, steps) = if active { (12 + vb + 4, 1) } else { (4, 0) };
+                let stored = Stored { elements, bytes, length, steps };
+                assert_eq!(store(&machine, window, ST1D, &mut patch), Ok(stored));
+            }
+        }
+    }
+
     #[test]
     fn stores_that_are_refused() {
-        let [z, _] = forms();
+        let [(z, _), _] = forms();
         let good = machine(&z);
         let refused = |machine: Machine, length: usize, room: usize| {
             let (mut memory, mut patch) = (vec![OLD; length], vec![OLD; room]);

@@ -1,4 +1,4 @@
--- `compose_spaced`: one element after another, each a run. The invariant is `Composing`: with the runs from t on put behind it, the
+-- `compose_spaced`: one element after another, each a run. The invariant is `Composing`: with the runs still to come put behind it, the
 -- buffer is what all runs make of it. Assumes nothing.
 use mathlib.Core.Path.{_≡_, sym, ap, _∙_}
 use Prim.Native.Nat.{ℕ, _+_, _-_, _≤_}
@@ -14,11 +14,11 @@ use Rattle.cutting.proofs.compose_spaced.Statement.{statement}
 use Rattle.cutting.proofs.compose_spaced.Tie as tie
 
 abbrev Inv-loop : tie.InvT-loop
-Inv-loop w first gap size count memory out₀ to₀ p₀ t₀ out to p t =
-    (t ≤ count) × Composing w memory (spaced first gap size count) out₀ (spaced p gap size (count - t)) out to t
+Inv-loop w first gap size count memory out₀ to₀ p₀ steps₀ out to p steps =
+    (steps ≤ count) × Composing w memory (spaced first gap size count) out₀ (spaced p gap size (count - steps)) out to steps
 
 abbrev μ-loop : tie.MeasureT-loop
-μ-loop w first gap size count memory out₀ to₀ p₀ t₀ out to p t = count - t
+μ-loop w first gap size count memory out₀ to₀ p₀ steps₀ out to p steps = count - steps
 
 abbrev entry : tie.At-loop Inv-loop μ-loop → tie.Start Inv-loop μ-loop
 entry l = l .before .before .before
@@ -62,8 +62,8 @@ add-to-2 c = let i = turn c in omega (arith, room i, entry (i .before) .pre .0)
 add-p : tie.Need-add-p Inv-loop μ-loop
 add-p c = let i = turn c in omega (arith, room i, entry (i .before) .pre .0)
 
-add-t : tie.Need-add-t Inv-loop μ-loop
-add-t c = let i = turn c in omega (arith, room i, entry (i .before) .pre .0)
+add-steps : tie.Need-add-steps Inv-loop μ-loop
+add-steps c = let i = turn c in omega (arith, room i, entry (i .before) .pre .0)
 
 loop-less : tie.Need-loop-less Inv-loop μ-loop
 loop-less c = let i = turn c in omega (arith, room i, entry (i .before) .pre .0)
@@ -85,8 +85,8 @@ put-trailer-requires : tie.Need-put-trailer-requires Inv-loop μ-loop
 put-trailer-requires c κs =
     let l = c .before .before in omega (arith, composing-left _ _ _ _ (entry l .pre .0 .4) _ _ _ _ (l .loop .inv .1))
 
-add-result : tie.Need-add-result Inv-loop μ-loop
-add-result c = let l = left c .before in omega (arith, composing-left _ _ _ _ (entry l .pre .0 .4) _ _ _ _ (l .loop .inv .1))
+add-t19 : tie.Need-add-t19 Inv-loop μ-loop
+add-t19 c = let l = left c .before in omega (arith, composing-left _ _ _ _ (entry l .pre .0 .4) _ _ _ _ (l .loop .inv .1))
 
 same-length : tie.Need-same-length Inv-loop μ-loop
 same-length c = search needs
@@ -95,10 +95,10 @@ returns : tie.Need-returns Inv-loop μ-loop
 returns c =
     let a = entry (left c .before) in
     let l = left c .before .loop in
-    let e : l .t ≡ a .args .count = omega (arith, l .inv .0) in
+    let e : l .steps ≡ a .args .count = omega (arith, l .inv .0) in
     let d = composing-done _ _ _ _ (a .pre .0 .4) _ _ _ _ (l .inv .1) (spaced-none _ _ _ _ _ (omega arith)) _
     (c .before .before .put-trailer .ensures ∙ ap (λ (k : ℕ). overwritten (l .out) (l .to) (trailer k)) (sym e)) in
-    (omega (arith, d .0), d .1)
+    ((omega (arith, d .0), e), d .1)
 
 pub compose-spaced-spec : {M : Type 1} → statement M
 compose-spaced-spec =
@@ -112,10 +112,10 @@ compose-spaced-spec =
     add-to
     add-to-2
     add-p
-    add-t
+    add-steps
     loop-less
     loop-again
     put-trailer-requires
-    add-result
+    add-t19
     same-length
     returns)

@@ -34,11 +34,11 @@ enum-known-v-2 c = search needs
 detail-of-requires : tie.Need-detail-of-requires
 detail-of-requires c κs = search needs
 
-array-read-t11 : tie.Need-array-read-t11
-array-read-t11 c = search needs
+array-read-t12 : tie.Need-array-read-t12
+array-read-t12 c = search needs
 
-array-read-t14 : tie.Need-array-read-t14
-array-read-t14 c = search needs
+array-read-t15 : tie.Need-array-read-t15
+array-read-t15 c = search needs
 
 returns : tie.Need-returns
 returns c = sym (ap numbers (c .before .v .given .1))
@@ -55,7 +55,7 @@ answers-of-spec =
     enum-known-v
     enum-known-v-2
     detail-of-requires
-    array-read-t11
-    array-read-t14
+    array-read-t12
+    array-read-t15
     returns
     returns-2)

@@ -139,11 +139,11 @@ returns-2 c =
     let y = m .before .before .copy-active in
     strided-done (a .args .s) (a .args .vb) (p .0 .0) (a .args .z .now) (p .1 .0) (z-bytes k) (p .0 .1) (a .args .base)
     (a .args .memory .now)
-    (memory-bytes k) (p .1 .1 .0) (p .1 .1 .1) _ _ _ (at d) _ _ (a .args .patch .now) _ (omega arith) (y .ensures .0) (y .ensures .1 .0)
+    (memory-bytes k) (p .1 .1 .0) (p .1 .1 .1) _ _ _ _ (at d) _ _ (a .args .patch .now) _ (omega arith) (y .ensures .0) (y .ensures .1 .0)
     (ap (λ (x : ℕ). x - a .args .base) (d .strided-address .ensures))
     (part-over (a .args .memory .now) (at d) (count k) _ (stridedBytes (a .args .s) (a .args .vb) (a .args .z .now))
     (active-long (a .args .s) (a .args .vb) (p .0 .0) (a .args .z .now) (p .1 .0)) (y .ensures .1 .1))
-    (e .compose-spaced .ensures .0) (e .compose-spaced .ensures .1)
+    (e .compose-spaced .ensures .0 .0) (e .compose-spaced .ensures .0 .1) (e .compose-spaced .ensures .1)
 
 pub finish-spec : {M : Type 1} → statement M
 finish-spec =

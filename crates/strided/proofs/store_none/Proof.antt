@@ -36,9 +36,9 @@ returns-2 c =
     let k = d .before .before .before .before in
     let a = k .before in
     λ size.
-    none-done (a .args .base) (a .args .memory .now) (window-inv _ _ (a .pre) .1) (bytes k) size _ _ _ (a .args .patch .now) _
+    none-done (a .args .base) (a .args .memory .now) (window-inv _ _ (a .pre) .1) (bytes k) size _ _ _ _ (a .args .patch .now) _
     (omega arith)
-    (d .compose-spaced .ensures .0) (d .compose-spaced .ensures .1)
+    (d .compose-spaced .ensures .0 .0) (d .compose-spaced .ensures .0 .1) (d .compose-spaced .ensures .1)
 
 pub store-none-spec : {M : Type 1} → statement M
 store-none-spec = tie.close (tie.spec returns compose-spaced-requires same-length returns-2)

@@ -17,13 +17,22 @@ pub fn put_length(patch: &mut [u8], from: usize, length: usize) {
     patch[from + HEAD - 2..][..2].copy_from_slice(&(length as u16).to_le_bytes());
 }
 
-/// Puts the trailer behind the runs, and answers for so many active elements of this size.
+/// What a store that is done counted: its active elements, the bytes of one, its steps.
+pub struct Counts {
+    pub active: usize,
+    pub size: usize,
+    pub steps: usize,
+}
+
+/// Puts the trailer behind the runs, and answers with these counts.
 #[inline(always)]
-pub fn finish(buffers: Buffers, end: usize, runs: usize, active: usize, size: usize) -> u64 {
+pub fn finish(buffers: Buffers, end: usize, runs: usize, counts: Counts) -> u64 {
+    let Counts { active, size, steps } = counts;
     let [low, high] = (runs as u16).to_le_bytes();
     let trailer = [TRAILER_MARK[0], TRAILER_MARK[1], low, high];
     buffers.patch[end..][..TRAILER].copy_from_slice(&trailer);
-    let [active, moved, length] = [active, active * size, end + TRAILER].map(|n| n as u64);
-    *buffers.answer = [0, 0, active, moved, length, 0];
+    let counted = [active, active * size, end + TRAILER, steps].map(|n| n as u64);
+    let [active, moved, length, steps] = counted;
+    *buffers.answer = [0, 0, active, moved, length, steps];
     DONE
 }

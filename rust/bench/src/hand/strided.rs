@@ -1,7 +1,7 @@
-//! Strided stores: their active elements are one stretch of the window, and one run.
+//! Strided stores: their active elements are one stretch of the window, one step and one run.
 
 use super::checks::{fault, Buffers, Lent};
-use super::compose::{finish, put_head};
+use super::compose::{finish, put_head, Counts};
 use super::decode::{field, Row};
 use crate::verdicts::{HEAD, NO_ROOM, TRAILER};
 
@@ -34,7 +34,8 @@ pub fn strided(lent: &Lent, row: &Row, buffers: Buffers) -> u64 {
         patch[to..][..source.len()].copy_from_slice(source);
         to += source.len();
     }
-    finish(Buffers { memory, patch, answer }, end, runs, bytes / SIZE, SIZE)
+    let counts = Counts { active: bytes / SIZE, size: SIZE, steps: runs };
+    finish(Buffers { memory, patch, answer }, end, runs, counts)
 }
 
 /// A strided store's active elements.

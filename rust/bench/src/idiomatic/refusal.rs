@@ -44,18 +44,19 @@ impl Refusal {
     }
 }
 
-/// What a call that is done counted: elements or runs, bytes, and the length of a patch.
+/// What a call that is done counted: elements or runs, bytes, the length of a patch, and steps.
 #[derive(Clone, Copy, Debug, Default, PartialEq, Eq)]
 pub struct Done {
     pub parts: usize,
     pub bytes: usize,
     pub length: usize,
+    pub steps: usize,
 }
 
-/// Writes the answer and tells the verdict's number.
+/// Writes the answer, but for steps, and tells the verdict's number.
 pub fn answered(result: Result<Done, Refusal>, answer: &mut Answer) -> u64 {
     match result {
-        Ok(Done { parts, bytes, length }) => {
+        Ok(Done { parts, bytes, length, .. }) => {
             *answer = [0, 0, parts as u64, bytes as u64, length as u64];
             DONE
         }

@@ -24,10 +24,11 @@ pub fn store(
     answer: &mut [u64; 6],
 ) -> u64 {
     let machine = Machine { vb, flags, x, sp, z, p };
+    let result = try_store(machine, base, memory, word, patch);
     let mut numbers = [0; 5];
-    let verdict = answered(try_store(machine, base, memory, word, patch), &mut numbers);
-    *answer = [0; 6];
+    let verdict = answered(result, &mut numbers);
     answer[..5].copy_from_slice(&numbers);
+    answer[5] = result.map_or(0, |done| done.steps as u64);
     verdict
 }
 
@@ -44,11 +45,13 @@ fn try_store(
     check_elements(&access, &window)?;
     let active = || access.elements().filter(|element| element.active);
     let mut writes = BTreeMap::new();
-    let mut done = Done::default();
+    let (mut done, mut end) = (Done::default(), None);
     for Element { address, bytes, .. } in active() {
         writes.extend((address..=u64::MAX).zip(bytes.iter().copied()));
         done.parts += 1;
         done.bytes += bytes.len();
+        done.steps += usize::from(end != Some(address));
+        end = address.checked_add(bytes.len() as u64);
     }
     let string = encoded(&writes);
     done.length = string.len();

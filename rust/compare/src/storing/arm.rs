@@ -41,6 +41,11 @@ impl Element {
         (0..self.size).map(move |k| first + k as u128)
     }
 
+    /// The address behind its last byte.
+    pub fn end(&self) -> u128 {
+        u128::from(self.address) + self.size as u128
+    }
+
     pub fn byte(&self, k: usize) -> u8 {
         (self.value >> (8 * k) & 0xFF) as u8
     }

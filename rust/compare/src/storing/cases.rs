@@ -46,8 +46,8 @@ fn answer(input: &Input) -> Outcome<6> {
     Outcome { verdict, numbers }
 }
 
-fn done(elements: u64, bytes: u64, length: u64) -> Outcome<6> {
-    Outcome { verdict: DONE, numbers: [0, 0, elements, bytes, length, 0] }
+fn done(elements: u64, bytes: u64, length: u64, steps: u64) -> Outcome<6> {
+    Outcome { verdict: DONE, numbers: [0, 0, elements, bytes, length, steps] }
 }
 
 fn faulting(element: u64, address: u64) -> Outcome<6> {
@@ -156,10 +156,10 @@ fn counters_over_two_registers() {
 fn the_whole_example() {
     let first = bytes_at(16, &[0, 1, 1, 5], &[0xA1, 0xA2, 0xA3, 0xA4]);
     let second = bytes_at(16, &[1, 0, 5, 5], &[0xA3, 0xA1, 0x00, 0xA4]);
-    for input in [first, second] {
+    for (input, steps) in [(first, 3), (second, 4)] {
         let input = over(8, &input);
         let memory = vec![0xA1, 0xA3, 0x77, 0x77, 0x77, 0xA4, 0x77, 0x77];
-        let Outcome { verdict, numbers } = done(4, 4, 31);
+        let Outcome { verdict, numbers } = done(4, 4, 31, steps);
         let exact = Left { verdict, numbers, memory, buffer: EXAMPLE.to_vec() };
         assert_eq!(left(&input, 31), exact);
         let buffer = [&EXAMPLE[..], &[0x77; 9]].concat();
@@ -169,7 +169,7 @@ fn the_whole_example() {
             let refused = Left { verdict: NO_ROOM, numbers: [0; 6], memory, buffer };
             assert_eq!(left(&input, room), refused);
         }
-        assert_eq!(answer(&over(LONGEST, &input)), done(4, 4, 31));
+        assert_eq!(answer(&over(LONGEST, &input)), done(4, 4, 31, steps));
         assert_eq!(answer(&over(LONGEST + 1, &input)), refused(WINDOW));
     }
 }
@@ -183,7 +183,7 @@ fn a_fault_has_written_nothing() {
 #[test]
 fn nothing_active_and_no_memory() {
     let none = over(0, &input(0xE580_A000));
-    assert_eq!(answer(&none), done(0, 0, 4));
+    assert_eq!(answer(&none), done(0, 0, 4, 0));
     assert_eq!(left(&none, 4).buffer, [0x50, 0x45, 0, 0]);
     assert_eq!(left(&none, 3).verdict, NO_ROOM);
 }
@@ -198,7 +198,7 @@ fn the_largest_patch_of_a_store() {
     let patch = [&head[..], &registers, &[0x50, 0x45, 1, 0]].concat();
     assert_eq!(patch.len(), 1_040);
     let whole = over(1_024, &four);
-    assert_eq!(answer(&whole), done(128, 1_024, 1_040));
+    assert_eq!(answer(&whole), done(128, 1_024, 1_040, 1));
     assert_eq!((left(&whole, 1_040).memory, left(&whole, 1_040).buffer), (registers, patch));
     assert_eq!(left(&whole, 1_039).verdict, NO_ROOM);
     assert_eq!(answer(&over(1_023, &four)), faulting(127, 0x13F8));
@@ -209,7 +209,7 @@ fn most_runs() {
     let offsets: Vec<u32> = (0..64).map(|e| (e * 27 + 5) % 64 * 2).collect();
     let bytes: Vec<u8> = offsets.iter().map(|&offset| offset as u8).collect();
     let input = over(127, &bytes_at(256, &offsets, &bytes));
-    assert_eq!(answer(&input), done(64, 64, 836));
+    assert_eq!(answer(&input), done(64, 64, 836, 64));
     let patch = left(&input, 836).buffer;
     for (number, run) in patch[..832].chunks(13).enumerate() {
         let offset = 2 * number as u8;
@@ -218,16 +218,72 @@ fn most_runs() {
     assert_eq!(patch[832..], [0x50, 0x45, 64, 0]);
 }
 
+/// The steps of doublewords at these offsets from the window's start, those in the mask active.
+fn steps_of(offsets: &[u64], mask: u64, base: u64, length: usize) -> u64 {
+    let vb = 8 * offsets.len();
+    let (z, p) = (vec![0; 32 * vb], vec![0; 2 * vb]);
+    let mut input = over(length, &Input { vb, z, p, base, ..input(0xE582_A001) });
+    input.x[0] = base;
+    for (e, offset) in offsets.iter().enumerate() {
+        input.z[2 * vb + 8 * e..][..8].copy_from_slice(&offset.to_le_bytes());
+        input.p[e] = (mask >> e & 1) as u8;
+    }
+    let Outcome { verdict, numbers } = answer(&input);
+    assert_eq!((verdict, numbers[2]), (DONE, u64::from(mask.count_ones())));
+    numbers[5]
+}
+
+/// "One for a whole register that is contiguous and active", and none where nothing is active.
+#[test]
+fn a_whole_register() {
+    for vb in LENGTHS {
+        let (count, all) = (vb as u64 / 8, !0 >> (64 - vb / 8));
+        let up: Vec<u64> = (0..count).map(|e| 8 * e).collect();
+        let down: Vec<u64> = up.iter().rev().copied().collect();
+        for base in [0, 0x1000, (vb as u64).wrapping_neg()] {
+            assert_eq!(steps_of(&up, all, base, vb), 1);
+            assert_eq!(steps_of(&up, 0, base, vb), 0);
+            assert_eq!(steps_of(&down, all, base, vb), count);
+        }
+        for (word, registers) in [(0xA13F_6000, 2), (0xA160_E000, 4)] {
+            let (z, p, bytes) = (vec![0; 32 * vb], vec![0; 2 * vb], registers * vb);
+            let mut whole = over(bytes, &Input { vb, z, p, base: 0x1000, ..strided(word, 0) });
+            whole.p[vb..vb + 2].copy_from_slice(&0x8008u16.to_le_bytes());
+            let bytes = bytes as u64;
+            assert_eq!(answer(&whole), done(bytes / 8, bytes, bytes + 16, 1));
+            whole.p[vb..vb + 2].copy_from_slice(&0x8000u16.to_le_bytes());
+            assert_eq!(answer(&whole), done(0, 0, 4, 0));
+        }
+    }
+}
+
+#[test]
+fn stretches_that_are_broken() {
+    let top = 0u64.wrapping_sub(64);
+    for base in [0, 0x1000, top] {
+        let steps = |offsets: [u64; 4], mask| steps_of(&offsets, mask, base, 64);
+        assert_eq!(steps([0, 8, 17, 25], 15), 2); // a gap of one byte
+        assert_eq!(steps([0, 8, 15, 23], 15), 2); // an overlap of one byte
+        assert_eq!(steps([8, 16, 0, 8], 15), 2); // a descending element
+        assert_eq!(steps([16, 8, 0, 24], 15), 4);
+        assert_eq!(steps([56, 0, 8, 16], 15), 2); // from the window's end to its start
+        assert_eq!(steps([32, 40, 48, 56], 15), 1); // up to the window's end
+        assert_eq!(steps([0, 8, 16, 24], 13), 2); // an inactive lane
+        assert_eq!(steps([0, 48, 8, 16], 13), 1); // one inside a stretch that goes on
+        assert_eq!(steps([0, 8, 16, 24], 6), 1);
+    }
+}
+
 #[test]
 fn the_ends_of_windows() {
     let at = |offset| over(16, &Input { base: 0x1000, ..scatter(0xE580_A000, offset) });
-    assert_eq!(answer(&at(8)), done(1, 8, 24));
+    assert_eq!(answer(&at(8)), done(1, 8, 24, 1));
     assert_eq!(answer(&at(9)), faulting(0, 0x1009));
     let last = 0x10_0000 + LONGEST as u64 - 1;
     let around = bytes_at(16, &[LONGEST as u32 - 1, 0, 7, 7], &[1, 2, 3, 3]);
     let mut around = over(LONGEST, &Input { base: 0x10_0000, ..around });
     around.x[0] = around.base;
-    assert_eq!(answer(&around), done(4, 4, 43));
+    assert_eq!(answer(&around), done(4, 4, 43, 4));
     let patch = left(&around, 43).buffer;
     assert_eq!(patch[..13], [0x50, 0x52, 0, 0, 0x10, 0, 0, 0, 0, 0, 1, 0, 2]);
     assert_eq!(patch[28..36], last.to_le_bytes());
@@ -237,7 +293,7 @@ fn the_ends_of_windows() {
 fn the_top_of_the_address_space() {
     let mut top = scatter(0xE580_A000, (-0x1008i64) as u64);
     (top.base, top.memory) = (0xFFFF_FFFF_FFFF_FFF0, vec![0; 16]);
-    assert_eq!(answer(&top), done(1, 8, 24));
+    assert_eq!(answer(&top), done(1, 8, 24, 1));
     let head = [0x50, 0x52, 0xF8, 255, 255, 255, 255, 255, 255, 255, 8, 0];
     assert_eq!(left(&top, 24).buffer[..12], head);
     top.x[0] += 1;
@@ -251,11 +307,11 @@ fn only_the_stores_own_elements_let_sp_be_checked() {
     let from_sp = 31 << 5;
     let mut none = strided(0xA120_6000 | from_sp, 0x8058);
     (none.sp, none.flags) = (0x1008, none.flags | 1 << SP_CHECK);
-    assert_eq!(answer(&none), done(0, 0, 4));
+    assert_eq!(answer(&none), done(0, 0, 4, 0));
     let both = Input { flags: none.flags | 1 << SP_CHECK_NONE_ACTIVE, ..none.clone() };
     assert_eq!(answer(&both), refused(STACK));
     let second_alone = Input { flags: both.flags & !(1 << SP_CHECK), ..both };
-    assert_eq!(answer(&second_alone), done(0, 0, 4));
+    assert_eq!(answer(&second_alone), done(0, 0, 4, 0));
     let four = Input { word: 0xA120_E000 | from_sp, ..none };
     assert_eq!(answer(&four), refused(STACK));
 }
@@ -271,7 +327,7 @@ fn register_31() {
     (quadword.p[0], quadword.sp) = (1, 0x1001);
     quadword.z[31 * 16..][..8].copy_from_slice(&0x1002u64.to_le_bytes());
     assert_eq!(address(&quadword, 0), 0x1002);
-    assert_eq!(answer(&quadword), done(1, 16, 32));
+    assert_eq!(answer(&quadword), done(1, 16, 32, 1));
 }
 
 #[test]

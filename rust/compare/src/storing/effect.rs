@@ -2,6 +2,7 @@
 //! encoded.
 
 use super::arm::Element;
+use super::joints::{joints, Joint};
 use crate::patches::reader::{encoding, runs, Writes};
 use crate::reference::Outcome;
 use crate::verdicts::{DONE, NO_ROOM};
@@ -15,6 +16,8 @@ pub struct Effect {
     /// How many runs the patch has.
     pub runs: usize,
     pub patch: Vec<u8>,
+    /// How many active elements don't start where the active one before them ends.
+    pub steps: usize,
 }
 
 impl Effect {
@@ -30,9 +33,10 @@ impl Effect {
                 moved += 1;
             }
         }
+        let steps = active - joints(elements).filter(Joint::touches).count();
         let runs = runs(&writes);
         let patch = encoding(&writes, &runs).expect("a store's effect is within the sizes");
-        Effect { active, moved, runs: runs.len(), patch }
+        Effect { active, moved, runs: runs.len(), patch, steps }
     }
 
     /// How many addresses are written.
@@ -46,7 +50,8 @@ impl Effect {
         if room < length {
             return Outcome { verdict: NO_ROOM, numbers: [0; 6] };
         }
-        let [active, moved, length] = [self.active, self.moved, length].map(|number| number as u64);
-        Outcome { verdict: DONE, numbers: [0, 0, active, moved, length, 0] }
+        let counts = [self.active, self.moved, length, self.steps].map(|number| number as u64);
+        let [active, moved, length, steps] = counts;
+        Outcome { verdict: DONE, numbers: [0, 0, active, moved, length, steps] }
     }
 }

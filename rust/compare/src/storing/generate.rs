@@ -12,23 +12,29 @@ use crate::LONGEST;
 pub fn input(number: u64) -> Input {
     let mut random = Random::new(number + 1);
     let class = &CLASSES[random.below(CLASSES.len())];
+    let mut input = allowed(&mut random, class);
+    if random.one_in(3) {
+        spoil(&mut random, class, &mut input);
+    }
+    input
+}
+
+/// A store of the class that none of the refusals 1 to 5 is due for.
+pub fn allowed(random: &mut Random, class: &Class) -> Input {
     let vb = random.pick(&LENGTHS);
-    let window = window(&mut random, vb * 4);
+    let window = window(random, vb * 4);
     let mut input = Input {
         vb,
-        flags: flags(&mut random, class),
+        flags: flags(random, class),
         x: [(); 31].map(|()| random.number()),
         sp: random.number(),
         z: random.bytes(32 * vb),
         p: random.bytes(2 * vb),
         base: window.base,
         memory: random.bytes(window.length),
-        word: word(&mut random, class),
+        word: word(random, class),
     };
-    aim(&mut random, class, &window, &mut input);
-    if random.one_in(3) {
-        spoil(&mut random, class, &mut input);
-    }
+    aim(random, class, &window, &mut input);
     input
 }
 

@@ -3,6 +3,7 @@
 use super::arm::{self, Element, SP_CHECK, STREAMING};
 use super::classes::{class_of, Form, BASE, CLASSES, PREDICATE, R31};
 use super::effect::Effect;
+use super::joints::joints;
 use super::subject::Subject;
 use crate::verdicts::{DONE, FAULT, ILLEGAL, STACK, UNDEFINED, WINDOW};
 use crate::LONGEST;
@@ -14,15 +15,16 @@ pub struct Group {
     pub of: fn(&Subject) -> Option<u64>,
 }
 
-const CLASS: &[u64] = &[1, 2, 3, 4, 5, 6, 7, 8, 9, 10, 11, 12];
-const SCATTER: &[u64] = &[1, 2, 3, 4, 5, 6, 7, 12];
+pub const CLASS: &[u64] = &[1, 2, 3, 4, 5, 6, 7, 8, 9, 10, 11, 12];
+pub const SCATTER: &[u64] = &[1, 2, 3, 4, 5, 6, 7, 12];
 /// Classes whose addresses need not be multiples of anything.
-const UNSCALED: &[u64] = &[2, 4, 5, 6, 7, 12];
+pub const UNSCALED: &[u64] = &[2, 4, 5, 6, 7, 12];
 const FROM_SP: &[u64] = &[1, 2, 3, 4, 5, 6, 7, 8, 9, 10, 11];
 const VERDICT: &[u64] = &[0, 1, 2, 3, 4, 5, 6, 7];
 const SIZE: &[u64] = &[0, 8, 16, 32, 64];
 const BITS: &[u64] = &[0, 1, 2, 3];
 const RUNS: &[u64] = &[0, 1, 2, 3, 4, 7, 8, 15, 16, 31, 32, 33, 63, 64];
+const STEPS: &[u64] = &[0, 1, 2, 3, 4, 7, 8, 15, 16, 31, 32, 33, 63, 64];
 const PAYLOAD: &[u64] = &[0, 1, 2, 7, 8, 9, 16, 64, 256, 512, 1016, 1024];
 const ONCE: &[u64] = &[1];
 
@@ -65,6 +67,22 @@ pub const GROUPS: &[Group] = &[
     group("patch's length", &[4, 17, 24, 32, 836, 1040], |s| {
         s.done(|effect| effect.patch.len() as u64)
     }),
+    group("steps", STEPS, |s| s.done(|effect| effect.steps as u64)),
+    group("class, no step", CLASS, |s| s.class_where(|_, effect| effect.steps == 0)),
+    group("class, one step of several elements", CLASS, |s| {
+        s.class_where(|_, effect| effect.steps == 1 && effect.active > 1)
+    }),
+    group("class, a step for each of several elements", SCATTER, |s| {
+        s.class_where(|_, effect| effect.steps == effect.active && effect.active > 1)
+    }),
+    group("class, more steps than runs", SCATTER, |s| {
+        s.class_where(|_, effect| effect.steps > effect.runs)
+    }),
+    group("VB 16, class, whole and contiguous", CLASS, |s| s.whole_at(16)),
+    group("VB 32, class, whole and contiguous", CLASS, |s| s.whole_at(32)),
+    group("VB 64, class, whole and contiguous", CLASS, |s| s.whole_at(64)),
+    group("VB 128, class, whole and contiguous", CLASS, |s| s.whole_at(128)),
+    group("VB 256, class, whole and contiguous", CLASS, |s| s.whole_at(256)),
     group("elements ascend, descend, do neither", &[1, 2, 3], |s| {
         s.right.as_ref().ok().and_then(|_| order(s))
     }),
@@ -93,12 +111,12 @@ pub const GROUPS: &[Group] = &[
         s.class_where(|s, _| s.goes_round())
     }),
     group("first run at 0", ONCE, |s| s.once(|s, _| s.active().any(|e| e.address == 0))),
-    group("last run up to 2^64", ONCE, |s| s.once(|s, _| s.active().any(|e| end(e) == 1 << 64))),
+    group("last run up to 2^64", ONCE, |s| s.once(|s, _| s.active().any(|e| e.end() == 1 << 64))),
     group("run at the window's first byte", ONCE, |s| {
         s.once(|s, _| s.active().any(|e| e.address == s.input.base))
     }),
     group("run at the window's last byte", ONCE, |s| {
-        s.once(|s, _| s.active().any(|e| end(e) == s.input.end()))
+        s.once(|s, _| s.active().any(|e| e.end() == s.input.end()))
     }),
 ];
 
@@ -115,10 +133,6 @@ fn once(hit: bool) -> Option<u64> {
     hit.then_some(1)
 }
 
-fn end(element: &Element) -> u128 {
-    u128::from(element.address) + element.size as u128
-}
-
 impl Subject {
     fn verdict(&self) -> u64 {
         self.right.as_ref().map_or_else(|refusal| refusal.verdict, |_| DONE)
@@ -129,7 +143,7 @@ impl Subject {
         self.input.memory.len() as u64
     }
 
-    fn class(&self) -> Option<u64> {
+    pub fn class(&self) -> Option<u64> {
         class_of(self.input.word).map(|number| number as u64 + 1)
     }
 
@@ -154,11 +168,23 @@ impl Subject {
         self.right.as_ref().ok().map(number)
     }
 
+    /// Whether all elements are active, each where the one before it ends.
+    pub fn is_whole(&self) -> bool {
+        let elements = self.elements();
+        let follows = |two: &[Element]| two[0].end() == u128::from(two[1].address);
+        elements.iter().all(|element| element.active) && elements.windows(2).all(follows)
+    }
+
+    /// The class of a done store of whole registers, where vectors have so many bytes.
+    fn whole_at(&self, vb: usize) -> Option<u64> {
+        self.class_where(|s, _| s.input.vb == vb && s.is_whole())
+    }
+
     /// Whether the element that faults has bytes on both sides of 2^64.
     fn passes_the_top(&self) -> bool {
         let fault = self.right.as_ref().err().filter(|outcome| outcome.verdict == FAULT);
         let element = fault.map(|outcome| &self.elements()[outcome.numbers[0] as usize]);
-        element.map_or(false, |element| end(element) > 1 << 64)
+        element.map_or(false, |element| element.end() > 1 << 64)
     }
 
     /// Whether the first, a later or the last element faults: 0, 1 or 2.
@@ -181,10 +207,8 @@ impl Subject {
     /// Whether an active element ends where the longest window does, and the next active one starts
     /// where that starts.
     pub fn goes_round(&self) -> bool {
-        let ends = |element: &Element| end(element) == self.input.end();
-        let mut pairs = self.active().zip(self.active().skip(1));
-        self.length() == LONGEST as u64
-            && pairs.any(|(one, next)| ends(one) && next.address == self.input.base)
+        let longest = self.length() == LONGEST as u64;
+        longest && joints(self.elements()).any(|joint| joint.goes_round(self))
     }
 
     /// Two flags, as bits, of a defined store that is or isn't strided.

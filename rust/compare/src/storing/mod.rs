@@ -11,8 +11,10 @@ mod effect;
 pub mod generate;
 mod groups;
 pub mod input;
+mod joints;
 pub mod shapes;
 mod spoil;
+mod stretched;
 mod subject;
 mod tally;
 #[cfg(test)]
@@ -36,9 +38,17 @@ use tally::Tally;
 pub type Store = dyn Fn(&Machine, Window, u32, &mut [u8], &mut [u64; 6]) -> u64 + Sync;
 
 /// Stores that are compared where no number is given.
-pub const STORES: u64 = 600_000;
+pub const STORES: u64 = 700_000;
 /// Bytes from which patch buffers are taken.
 const NOISE: usize = 8192;
+
+/// The input with this number, in one of seven cases with its elements in stretches.
+fn input(number: u64) -> Input {
+    match number % 7 {
+        6 => stretched::input(number),
+        _ => shapes::input(number),
+    }
+}
 
 /// Compares the model on so many stores, which have to hit everything that is counted.
 pub fn run(report: &Report, stores: u64, threads: usize) {
@@ -87,7 +97,7 @@ impl<'a> Comparison<'a> {
     /// Compares the store with this number; the fillings are only room for those that it gets.
     fn store(&mut self, number: u64, fillings: &mut [Filling; 4]) {
         let mut random = Random::new(!number);
-        let subject = Subject::new(number, shapes::input(number));
+        let subject = Subject::new(number, input(number));
         self.tally.count(&subject);
         let (z, p) = (subject.input.z.clone(), subject.input.p.clone());
         let machine = Machine { z: &z, p: &p, ..subject.input.machine() };
@@ -283,7 +293,7 @@ mod tests {
 
     #[test]
     fn inputs_are_the_same_again() {
-        let text = |number| shapes::input(number).text();
+        let text = |number| input(number).text();
         assert!((0..20).all(|number| text(number) == text(number)));
     }
 }

@@ -73,7 +73,7 @@ fn around_the_end(random: &mut Random, count: usize, size: usize) -> (Vec<usize>
 }
 
 /// The least distance of addresses.
-fn unit(class: &Class) -> usize {
+pub fn unit(class: &Class) -> usize {
     match class.form {
         Form::Scatter { scale, .. } => 1 << scale,
         _ => 1,

@@ -1,14 +1,16 @@
 //! How often the random stores, buffers and pairs hit what they have to hit.
 
 use super::groups::{overlaps, Group, GROUPS};
+use super::joints::{KINDS, PLACES};
 use super::subject::Subject;
 use crate::counts::Counts;
 use crate::report::Report;
 use crate::verdicts::NO_ROOM;
 use std::cmp::Ordering;
 
-/// Rows that follow the groups'.
-const CALLS: usize = GROUPS.len();
+/// Rows that follow the groups': of each kind of joints one by class and one by place, then others.
+const JOINTS: usize = GROUPS.len();
+const CALLS: usize = JOINTS + 2 * KINDS.len();
 const ROOMS: usize = CALLS + 1;
 const APPLIED: usize = ROOMS + 1;
 const PAIRS: usize = APPLIED + 1;
@@ -28,14 +30,24 @@ pub struct Tally {
 
 impl Tally {
     pub fn new() -> Tally {
-        let groups = GROUPS.iter().map(|Group { name, numbers, .. }| (*name, *numbers));
-        Tally { stores: 0, counts: Counts::new(groups.chain(ROWS)) }
+        let groups = GROUPS.iter().map(|Group { name, numbers, .. }| (name.to_string(), *numbers));
+        let kinds = KINDS.iter().flat_map(|kind| {
+            let [class, place] = ["class", "place"].map(|by| format!("{by}, {}", kind.name));
+            [(class, kind.classes), (place, PLACES)]
+        });
+        let rows = ROWS.iter().map(|(name, numbers)| (name.to_string(), *numbers));
+        Tally { stores: 0, counts: Counts::new(groups.chain(kinds).chain(rows)) }
     }
 
     pub fn count(&mut self, subject: &Subject) {
         self.stores += 1;
         for (row, group) in GROUPS.iter().enumerate() {
             self.counts.hit(row, (group.of)(subject));
+        }
+        for (number, kind) in KINDS.iter().enumerate() {
+            let (row, (hit, places)) = (JOINTS + 2 * number, kind.of(subject));
+            self.counts.hit(row, subject.class().filter(|_| hit));
+            places.into_iter().for_each(|place| self.counts.hit(row + 1, Some(place)));
         }
     }
 

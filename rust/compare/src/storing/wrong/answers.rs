@@ -48,6 +48,20 @@ fn wrong_counts() {
             }),
         ),
         ("up to a fault", with(FAULT, |_, answer| answer[2] = answer[0])),
+        (
+            "steps without room",
+            with(NO_ROOM, |s, answer| {
+                answer[5] = s.right.as_ref().map_or(0, |effect| effect.steps as u64);
+            }),
+        ),
+        ("steps at a fault", with(FAULT, |_, answer| answer[5] = 1)),
+        (
+            "the last entry left alone",
+            then(|verdict, _, lent| {
+                lent.answer[5] = crate::GARBAGE;
+                verdict
+            }),
+        ),
     ] {
         is_found(name, &*store);
     }
@@ -94,7 +108,6 @@ fn wrong_details() {
         ),
         ("where it is done", with(DONE, |s, answer| answer[1] = s.input.base)),
         ("without room", with(NO_ROOM, |s, answer| answer[1] = s.input.base)),
-        ("a last entry", answering(|_, _, answer| answer[5] = 1)),
     ] {
         is_found(name, &*store);
     }

@@ -5,6 +5,7 @@ mod buffers;
 mod elements;
 mod memory;
 mod patches;
+mod steps;
 mod verdicts;
 
 use super::arm::{self, Element};
