@@ -157,7 +157,9 @@ uint64_t starshackle_encode(const uint64_t fields[8], uint64_t answer[5]);
  *          Steps are the active elements that don't start where the active one before them, the next lower in number, ends; the first
  *          has none before it and is a step. So there is one where a whole register is contiguous and active, and none where nothing
  *          is active. A refusal has 0 there.
- * FAULT    answer[0] the lowest active element with a byte outside the window, answer[1] its first address; else 0.
+ * FAULT    answer[0] the lowest active element with a byte outside the window, answer[1] the address, modulo 2^64, of the first of
+ *          its bytes, in its own byte order, that isn't in the window; else 0. That is the element's first address, or, where the
+ *          byte there is in the window, the address behind the window, which is 0 where the window ends at 2^64.
  *          Elements are numbered from 0, a strided store's through all its registers.
  * NO_ROOM  zeros: the patch has more than patch_len bytes.
  * LENGTH, REGISTERS, WINDOW, UNDEFINED, ILLEGAL, STACK  zeros.

@@ -174,7 +174,8 @@ class Stored(_Answer):
 
     DONE: elements that were active, bytes that they moved, the patch's length, and steps: how many active elements don't start where
     the active one before them, the next lower in number, ends; the first has none before it and counts. FAULT: the lowest active
-    element with a byte outside the window, and its first address. What a verdict doesn't have is 0.
+    element with a byte outside the window, and the address, modulo 2**64, of the first of its bytes, in its own byte order, that
+    isn't in the window: the element's first address, or else the one behind the window. What a verdict doesn't have is 0.
     """
 
     element: int
@@ -390,7 +391,7 @@ def store(machine, base, memory, word, patch):
     >>> patch[12:]
     bytearray(b'0123456789abcdefghijklmnPE\\x01\\x00..')
     >>> store(machine, 0, bytearray(20), 0xA1606000, patch)
-    Stored(verdict=<Verdict.FAULT: 7>, element=2, address=16, elements=0, bytes=0, length=0, steps=0)
+    Stored(verdict=<Verdict.FAULT: 7>, element=2, address=20, elements=0, bytes=0, length=0, steps=0)
     >>> store(machine, 0, memory, 0xA1606000, bytearray(39)).verdict
     <Verdict.NO_ROOM: 8>
     """

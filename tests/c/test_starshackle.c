@@ -646,6 +646,91 @@ static void refusals(void)
     CHECK(untouched());
 }
 
+/* ---- the byte that a fault names */
+
+static const uint32_t ST1B = 0xE402A001;    /* st1b { z1.d }, p0, [x0, z2.d] */
+static const uint32_t ST1D = 0xE582A001;    /* st1d { z1.d }, p0, [x0, z2.d] */
+static const uint32_t STRIDED = 0xA1606000; /* st1d { z0.d, z8.d }, pn8, [x0] */
+static const uint32_t ST1Q = 0xE43F2041;    /* st1q { z1.q }, p0, [z2.d] */
+
+/* Element 0 alone is active and lies at `first`, over a window of `length` bytes at `base`. It keeps its first address. */
+static void place(int line, uint32_t word, uint64_t first, uint64_t base, size_t length)
+{
+    machine(16, STARSHACKLE_FLAG_SVE | STARSHACKLE_FLAG_SME2 | STARSHACKLE_FLAG_SVE2P1, base, length);
+    m.flags |= STARSHACKLE_FLAG_STREAMING | STARSHACKLE_FLAG_FA64;
+    m.p[0] = 1;
+    set_counter(8, 0x0018);
+    if (word == ST1Q)
+        set_z(2, 0, 8, first);
+    else
+        m.x[0] = first;
+    check(line, element(word, 0) == STARSHACKLE_DONE && answer[0] == 1 && answer[1] == first, "its first address");
+    check(line, element(word, 1) == STARSHACKLE_DONE && answer[0] == 0, "the next isn't active");
+    memset(answer, 0x5A, sizeof answer);
+}
+
+static void fault_at(int line, uint32_t word, uint64_t first, uint64_t base, size_t length, uint64_t address)
+{
+    place(line, word, first, base, length);
+    refused(line, word, STARSHACKLE_FAULT, 0, address);
+}
+
+#define FAULT_AT(word, first, base, length, address) fault_at(__LINE__, word, first, base, length, address)
+
+/* Every place around windows of up to two elements and more, looked through byte by byte. */
+static void every_place(uint32_t word, uint64_t size)
+{
+    uint64_t length, n, k;
+    size_t i;
+    for (length = 0; length < 2 * size + 2; length++) {
+        const uint64_t bases[5] = {0, 1, 0x1000, (uint64_t)-1 - length, (uint64_t)0 - length};
+        for (i = 0; i < 5; i++) {
+            for (n = 0; n < length + 4 * size; n++) {
+                const uint64_t first = bases[i] + n - 2 * size;
+                for (k = 0; k < size && first + k - bases[i] < length; k++)
+                    continue;
+                if (k < size) {
+                    FAULT_AT(word, first, bases[i], (size_t)length, first + k);
+                } else {
+                    place(__LINE__, word, first, bases[i], (size_t)length);
+                    IS_DONE(word, 1, size, 12 + size + 4, 1);
+                }
+            }
+        }
+    }
+}
+
+static void faults(void)
+{
+    const uint32_t words[4] = {ST1B, ST1D, STRIDED, ST1Q};
+    static const uint64_t sizes[4] = {1, 8, 8, 16};
+    const uint64_t top = UINT64_C(0xFFFFFFFFFFFFFFF0);
+    uint64_t k;
+    size_t i;
+
+    /* document 02 (ii): a doubleword at FFFFFFFFFFFFFFFCh over a 16-byte window ending at 2^64 */
+    FAULT_AT(ST1D, UINT64_C(0xFFFFFFFFFFFFFFFC), top, 16, 0);
+    FAULT_AT(STRIDED, UINT64_C(0xFFFFFFFFFFFFFFFC), top, 16, 0);
+    for (i = 0; i < 4; i++) {
+        FAULT_AT(words[i], 0x1000 - sizes[i], 0x1000, 64, 0x1000 - sizes[i]); /* below the window */
+        FAULT_AT(words[i], 0x1040, 0x1000, 64, 0x1040);                       /* behind it */
+        FAULT_AT(words[i], 64, 0, 64, 64);
+        FAULT_AT(words[i], 0, top, 16, 0);
+        FAULT_AT(words[i], 0x1000, 0x1000, 0, 0x1000); /* no window */
+        FAULT_AT(words[i], 0, 0, 0, 0);
+        for (k = 1; k < sizes[i]; k++) {
+            FAULT_AT(words[i], 0x1000 - k, 0x1000, 64, 0x1000 - k); /* from below into it */
+            FAULT_AT(words[i], 0x1040 - k, 0x1000, 64, 0x1040);     /* from inside out of it */
+            FAULT_AT(words[i], 64 - k, 0, 64, 64);
+            FAULT_AT(words[i], 0 - k, top, 16, 0);   /* and past 2^64 */
+            FAULT_AT(words[i], 0 - k, 0, 64, 0 - k); /* past 2^64 into it */
+            if (k + 1 < sizes[i])
+                FAULT_AT(words[i], 0x1000 - k, 0x1000, sizes[i] - k - 1, 0x1000 - k); /* over both its ends */
+        }
+        every_place(words[i], sizes[i]);
+    }
+}
+
 /* ---- patches */
 
 /* The example with one byte changed. */
@@ -779,6 +864,7 @@ int main(void)
     largest();
     steps();
     refusals();
+    faults();
     patches();
     nulls();
     printf("C interface: %lu checks passed\n", checks);

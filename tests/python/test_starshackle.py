@@ -196,6 +196,57 @@ class Refusals(unittest.TestCase):
         self.check(scatter(), SCATTER, Verdict.FAULT, (0, 0x1000), length=0)
         self.check(scatter(), SCATTER, Verdict.FAULT, (3, 0x1005), length=5, room=0)  # before what is said of the room
 
+    # by word: where element 0's address is given, and its bytes
+    FAULTS = {0xE402A001: ("x", 1), 0xE582A001: ("x", 8), STRIDED: ("x", 8), 0xE43F2041: ("z", 16)}
+
+    def fault(self, word, first, base, length, address):
+        """Element 0 alone, which lies at `first`, faults at this address, and keeps its first one; None where it is done."""
+        first, features = first % 2**64, Flags.SVE | Flags.SME2 | Flags.SVE2P1
+        machine = Machine(flags=features | Flags.STREAMING | Flags.FA64)
+        machine.p[0], machine.p[16] = 0x01, 0x18
+        if self.FAULTS[word][0] == "x":
+            machine.x[0] = first
+        else:
+            struct.pack_into("<Q", machine.z, 32, first)
+        one, other = element(machine, word, 0), element(machine, word, 1)
+        self.assertEqual((one.active, one.address, one.bytes, other.active), (True, first, self.FAULTS[word][1], False))
+        if address is None:
+            self.assertTrue(store(machine, base, bytearray(length), word, bytearray(32)).done)
+        else:
+            self.check(machine, word, Verdict.FAULT, (0, address % 2**64), base=base, length=length, room=32)
+
+    def test_fault_at_0(self):
+        """Document 02 (ii): a doubleword at FFFFFFFFFFFFFFFCh over a 16-byte window ending at 2^64."""
+        for word in [0xE582A001, STRIDED]:
+            self.fault(word, 0xFFFFFFFFFFFFFFFC, 2**64 - 16, 16, 0)
+
+    def test_fault_byte(self):
+        for word, (_, size) in self.FAULTS.items():
+            self.fault(word, 0x1000 - size, 0x1000, 64, 0x1000 - size)  # below the window
+            self.fault(word, 0x1040, 0x1000, 64, 0x1040)  # behind it
+            self.fault(word, 64, 0, 64, 64)
+            self.fault(word, 0, 2**64 - 64, 64, 0)
+            self.fault(word, 0x1000, 0x1000, 0, 0x1000)  # no window
+            self.fault(word, 0, 0, 0, 0)
+            for k in range(1, size):
+                self.fault(word, 0x1000 - k, 0x1000, 64, 0x1000 - k)  # from below into it
+                self.fault(word, 0x1040 - k, 0x1000, 64, 0x1040)  # from inside out of it
+                self.fault(word, 64 - k, 0, 64, 64)
+                self.fault(word, -k, 2**64 - 64, 64, 0)  # and past 2^64
+                self.fault(word, -k, 0, 64, -k)  # past 2^64 into it
+                if k + 1 < size:
+                    self.fault(word, 0x1000 - k, 0x1000, size - k - 1, 0x1000 - k)  # over both its ends
+
+    def test_fault_byte_by_byte(self):
+        """Every place around short windows, looked through byte by byte."""
+        for word, (_, size) in self.FAULTS.items():
+            for length in [0, 1, 2, size - 1, size, size + 1, 2 * size]:
+                for base in [0, 1, 0x1000, 2**64 - 1 - length, (2**64 - length) % 2**64]:
+                    for first in range(base - size - 1, base + length + 2):
+                        addresses = [(first + k) % 2**64 for k in range(size)]
+                        outside = [address for address in addresses if not base <= address < base + length]
+                        self.fault(word, first, base, length, outside[0] if outside else None)
+
     def test_no_room(self):
         for room in [0, 1, 30]:
             self.check(scatter(), SCATTER, Verdict.NO_ROOM, room=room)
@@ -464,8 +515,9 @@ class Random(unittest.TestCase):
             self.assertEqual(patch, b"\x77" * LARGEST_PATCH)
             self.assertEqual((stored.elements, stored.bytes, stored.length, stored.steps), (0, 0, 0, 0))
             if stored.verdict is Verdict.FAULT:
-                outside = ((e, one.address) for e, one in active if not base <= one.address <= base + length - one.bytes)
-                self.assertEqual(next(outside), (stored.element, stored.address))
+                bytes_ = ((e, (one.address + k) % 2**64) for e, one in active for k in range(one.bytes))
+                outside = next((e, address) for e, address in bytes_ if not base <= address < base + length)
+                self.assertEqual(outside, (stored.element, stored.address))
             else:
                 self.assertEqual((stored.element, stored.address), (0, 0))
         for verdict in [Verdict.DONE, Verdict.ILLEGAL, Verdict.STACK, Verdict.FAULT]:

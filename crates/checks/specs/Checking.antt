@@ -65,7 +65,7 @@ checkedFor f m s =
 -- verdicts 7 and 8, or done, for these elements of `size` bytes each
 abbrev pub concluded : ℕ → ℕ → ℕ → ℕ → List Element → Verdict
 concluded W L room size es =
-    cond (found (firstOutside W L es)) (Ver.Refused (faultOf (firstOutside W L es)))
+    cond (found (firstOutside W L es)) (Ver.Refused (faultOf W L (firstOutside W L es)))
     (cond (ltb room (length (patchOf es))) (Ver.Refused NoRoom) (doneOf es size))
 
 -- none of 1 to 6 is due: the word's store has these active elements of `size` bytes each, and 7 and 8 decide

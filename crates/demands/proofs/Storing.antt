@@ -4,7 +4,7 @@ use mathlib.Core.Bool.{Bool, true, false, not, cond}
 use mathlib.Core.List.{List, _∷_}
 use mathlib.Core.Logic.{_↔_, _⊎_, inl, inr}
 use mathlib.Core.Option.{Option, none, some, Option·getD}
-use Prim.Native.Nat.{ℕ, zero, suc, _+_, _-_, _≤_, _<_}
+use Prim.Native.Nat.{ℕ, zero, suc, _+_, _-_, _^_, _≤_, _<_}
 use native.Mathlib.Omega.{arith}
 use lib.Dec.{ltb}
 use lib.ListN.{length, getD}
@@ -13,14 +13,15 @@ use Rattle.encoding.specs.Encoding.{classFor, refused}
 use Rattle.encoding.specs.declared.Decoded.{Decoded}
 use Rattle.encoding.specs.declared.Decoded.the-variants as D
 use Rattle.encoding.specs.declared.Store.{Store}
+use Rattle.encoding.specs.declared.Store.the-variants.{Scatter, Strided, Quadword}
 use Rattle.encoding.proofs.Statements.{known-accepted}
 use Rattle.writes.specs.Elements.{Element, InWindow, netEffect}
 use Rattle.writes.specs.Sets.{overlay}
-use Rattle.window.specs.Window.{windowOk, inWindow}
+use Rattle.window.specs.Window.{windowOk, inWindow, byteOutside}
 use Rattle.window.proofs.Order.{two, absurdly, not-both}
 use Rattle.writes.proofs.Overlay.{length-overlay, getD-overlay}
 use Rattle.writes.proofs.Statements.{laid-as-written, written-last}
-use Rattle.window.proofs.Windows.{in-window, not-in-window}
+use Rattle.window.proofs.Windows.{in-window, not-in-window, Least, byte-least}
 use Rattle.elements.specs.Machine.{Machine}
 use Rattle.elements.specs.Stores.{sizeOf, countOf}
 use Rattle.elements.specs.Elements.{activeAt, elementAt, actives, elements}
@@ -192,7 +193,7 @@ record Faults (W L e a : ℕ) (xs : List Element) : Type 0 where
   element : Element
   first : firstOutside W L xs ≡ some element
   number : e ≡ element .number
-  address : a ≡ element .address
+  address : a ≡ byteOutside W L (element .address) (length (element .bytes))
 
 fault-is : (f : Flags) (m : Machine) (W : ℕ) (mem : List ℕ) (word : ℕ) (buffer : List ℕ) (e a : ℕ) (mem′ buffer′ : List ℕ)
     → Stored f m W mem word buffer (Refused (Fault e a)) mem′ buffer′ → Faults W (length mem) e a (elementsFor m (decodeOf word))
@@ -206,11 +207,27 @@ fault-is f m W mem word buffer e a mem′ buffer′ c =
   where
     go : (o : Option Element) → firstOutside W (length mem) (elementsFor m (decodeOf word)) ≡ o → (t : Bool)
         → Refused (Fault e a)
-        ≡ cond (found o) (Refused (faultOf o)) (cond t (Refused NoRoom) (doneOf (elementsFor m (decodeOf word)) (sizeFor (decodeOf word))))
+        ≡ cond (found o) (Refused (faultOf W (length mem) o))
+        (cond t (Refused NoRoom) (doneOf (elementsFor m (decodeOf word)) (sizeFor (decodeOf word))))
         → Faults W (length mem) e a (elementsFor m (decodeOf word))
     go none q true p = absurdly cc
     go none q false p = absurdly cc
     go (some x) q t p = record { element = x; first = q; number = cc; address = cc }
+
+-- what is settled where 7 is answered
+fault-settled : (f : Flags) (m : Machine) (W : ℕ) (mem : List ℕ) (word : ℕ) (buffer : List ℕ) (e a : ℕ) (mem′ buffer′ : List ℕ)
+    → Stored f m W mem word buffer (Refused (Fault e a)) mem′ buffer′ → Settled m W (length mem) word
+fault-settled f m W mem word buffer e a mem′ buffer′ c =
+    let rs = tableFor f m W mem word buffer in
+    let d = storing-decided f m W mem word buffer (Refused (Fault e a)) mem′ buffer′ c .0 7 (λ q. omega (arith, q)) .0 refl in
+    settled f m W (length mem) word (length buffer) (decides-before 7 rs d)
+
+-- an element's address is one of 64 bits
+address-small : (m : Machine) (s : Store) (e : ℕ) → elementAt m s e .address < 2 ^ 64
+unfolding elementAt
+address-small m (Scatter f) e = omega arith
+address-small m (Strided f) e = omega arith
+address-small m (Quadword f) e = omega arith
 
 pub fault-names-the-lowest : FaultNamesTheLowest
 unfolding elements elementAt
@@ -219,11 +236,20 @@ fault-names-the-lowest f m W mem word buffer e a mem′ buffer′ s c k =
     let q : firstOutside W (length mem) (elements m s) ≡ some (t .element) =
     sym (ap (λ (d : Decoded). firstOutside W (length mem) (elementsFor m d)) k) ∙ t .first in
     let l = first-outside (activeAt m s) (elementAt m s) W (length mem) (countOf m s) 0 (t .element) q in
-    let i : l .among .at ≡ e = sym (t .number ∙ ap (λ (x : Element). x .number) (l .among .is)) in (
-      subst (λ (y : ℕ). y < countOf m s) i (omega (arith, l .among .below)),
+    let i : l .among .at ≡ e = sym (t .number ∙ ap (λ (x : Element). x .number) (l .among .is)) in
+    let x : t .element ≡ elementAt m s e = l .among .is ∙ ap (elementAt m s) i in
+    let b : a ≡ byteOutside W (length mem) (elementAt m s e .address) (length (elementAt m s e .bytes)) =
+    t .address ∙ ap (λ (y : Element). byteOutside W (length mem) (y .address) (length (y .bytes))) x in
+    let h : e < countOf m s = subst (λ (y : ℕ). y < countOf m s) i (omega (arith, l .among .below)) in
+    let o = subst (λ (y : ℕ). liesIn W (length mem) m s y ≡ false) i (l .out) in
+    let w = fault-settled f m W mem word buffer e a mem′ buffer′ c in
+    let r = byte-least W (length mem) (elementAt m s e .address) (length (elementAt m s e .bytes)) (w .window) (address-small m s e)
+    (some-bytes m s e (w .buffers) (known-accepted word s k) h) o in
+    let v = subst (λ (y : ℕ). Least W (length mem) (elementAt m s e .address) (length (elementAt m s e .bytes)) y) (sym b) r in (
+      h,
       subst (λ (y : ℕ). activeAt m s y ≡ true) i (l .among .is-on),
-      t .address ∙ ap (λ (x : Element). x .address) (l .among .is) ∙ ap (λ (y : ℕ). elementAt m s y .address) i,
-      subst (λ (y : ℕ). liesIn W (length mem) m s y ≡ false) i (l .out),
+      (v .at, v .below, v .is, v .out, v .before),
+      o,
       (λ d h o. l .before d (omega arith) (subst (λ (y : ℕ). d < y) (sym i) h) o),
     )
 

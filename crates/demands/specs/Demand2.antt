@@ -1,5 +1,5 @@
 -- Demand 2 as one statement. Its proof is `demand2` in proofs/Demand2.antt. Assumes nothing.
-use Prim.Native.Nat.{ℕ, suc, _+_, _*_, _≤_, _<_}
+use Prim.Native.Nat.{ℕ, suc, _+_, _*_, _%_, _^_, _≤_, _<_}
 use mathlib.Core.Bool.{Bool, true, false}
 use mathlib.Core.List.{List, [], _∷_, _++_}
 use mathlib.Core.Logic.{_↔_, _⊎_}
@@ -127,15 +127,20 @@ ApplyingDecided =
 abbrev pub liesIn : ℕ → ℕ → Machine → Store → ℕ → Bool
 liesIn W L m s e = inWindow W L (elementAt m s e .address) (length (elementAt m s e .bytes))
 
--- "lowest such element, its first address": a fault names an active element outside the window, and each active element below it
--- lies inside
+-- a fault names an active element outside the window, and each active element below it lies inside. Document 02 (ii): "keep the lowest
+-- faulting element, and return the address, modulo 2^64, of the first of its bytes, in its own byte order, that isn't in the window":
+-- byte k isn't, and each before it is
 abbrev pub FaultNamesTheLowest : Type 0
 FaultNamesTheLowest =
     (f : Flags) (m : Machine) (W : ℕ) (mem : List ℕ) (word : ℕ) (buffer : List ℕ) (e a : ℕ) (mem′ buffer′ : List ℕ) (s : Store)
     → Stored f m W mem word buffer (Refused (Fault e a)) mem′ buffer′ → decodeOf word ≡ D.Known s
     → (e < countOf m s)
     × (activeAt m s e ≡ true)
-    × (a ≡ elementAt m s e .address)
+    × ((k : ℕ)
+    × (k < length (elementAt m s e .bytes))
+    × (a ≡ (elementAt m s e .address + k) % 2 ^ 64)
+    × (inWindow W (length mem) a 1 ≡ false)
+    × ((j : ℕ) → j < k → inWindow W (length mem) ((elementAt m s e .address + j) % 2 ^ 64) 1 ≡ true))
     × (liesIn W (length mem) m s e ≡ false)
     × ((d : ℕ) → d < e → activeAt m s d ≡ true → liesIn W (length mem) m s d ≡ true)
 

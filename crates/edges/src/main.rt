@@ -231,7 +231,10 @@ fn refused(r: Refusal) {
             element,
             address: a,
         } => {
-            number(element as usize, b" is the lowest element outside, at ");
+            number(
+                element as usize,
+                b" is the lowest element outside, its first byte there at ",
+            );
             address(a, b"h: 7 fault\n");
         }
         Refusal::NoRoom => say(b"8 no room\n"),

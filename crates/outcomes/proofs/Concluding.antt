@@ -1,12 +1,15 @@
 -- From verdict 7 on: what is answered, and what is left of memory and buffer. Assumes nothing.
 use mathlib.Core.Path.{_≡_, refl, sym, ap, ap₂, _∙_, subst}
-use mathlib.Core.Bool.{Bool, cond}
-use mathlib.Core.List.{List, _++_}
+use mathlib.Core.Bool.{Bool, true, false, cond}
+use mathlib.Core.List.{List, [], _∷_, _++_}
 use mathlib.Core.Option.{Option, none, some}
-use Prim.Native.Nat.{ℕ, _*_, _≤_, _<_}
+use Prim.Native.Nat.{ℕ, _+_, _*_, _%_, _^_, _≤_, _<_}
 use lib.Dec.{ltb}
 use lib.ListN.{length, drop}
 use borrow.Author.Tests.{lt-ltb, le-ltb}
+use Rattle.window.specs.Window.{windowOk, inWindow}
+use Rattle.window.proofs.Order.{absurdly}
+use Rattle.window.proofs.Windows.{byte-is}
 use Rattle.writes.specs.Elements.{Element, written, stepsOf}
 use Rattle.elements.specs.Machine.{Machine}
 use Rattle.verdicts.specs.Verdicts.{patchOf, firstOutside, found, faultOf, doneOf, verdictOf}
@@ -19,19 +22,35 @@ use Rattle.verdicts.specs.declared.Verdict.the-variants.{Done, Refused}
 use Rattle.outcomes.specs.Storing.{memoryAfter, bufferAfter, Stored}
 use Rattle.outcomes.specs.Steps.{StoredOf}
 
+-- the first outside isn't in the window
+pub is-outside : (W L : ℕ) (es : List Element) (x : Element) → firstOutside W L es ≡ some x
+    → inWindow W L (x .address) (length (x .bytes)) ≡ false
+unfolding firstOutside
+is-outside W L [] x q = absurdly cc
+is-outside W L (y ∷ es) x q = go (inWindow W L (y .address) (length (y .bytes))) refl q (is-outside W L es x)
+  where
+    go : (b : Bool) → inWindow W L (y .address) (length (y .bytes)) ≡ b → cond b (firstOutside W L es) (some y) ≡ some x
+        → (firstOutside W L es ≡ some x → inWindow W L (x .address) (length (x .bytes)) ≡ false)
+        → inWindow W L (x .address) (length (x .bytes)) ≡ false
+    go true i p f = f p
+    go false i p f = let e : y ≡ x = cc in subst (λ (z : Element). inWindow W L (z .address) (length (z .bytes)) ≡ false) e i
+
 module _ (W size : ℕ) (mem buffer : List ℕ) (es : List Element) where
   -- by what the search found and whether there is room
   abbrev by : Option Element → Bool → Verdict
-  by o short = cond (found o) (Refused (faultOf o)) (cond short (Refused NoRoom) (doneOf es size))
+  by o short = cond (found o) (Refused (faultOf W (length mem) o)) (cond short (Refused NoRoom) (doneOf es size))
 
   abbrev short : Bool
   short = ltb (length buffer) (length (patchOf es))
 
-  pub stored-fault : (e a : ℕ) (x : Element) → firstOutside W (length mem) es ≡ some x → e ≡ x .number → a ≡ x .address
+  -- an element of a 64-bit address, named by the first of its bytes that isn't in the window
+  pub stored-fault : windowOk W (length mem) ≡ true → (e a : ℕ) (x : Element) → firstOutside W (length mem) es ≡ some x → e ≡ x .number
+      → x .address < 2 ^ 64 → a ≡ cond (inWindow W (length mem) (x .address) 1) ((W + length mem) % 2 ^ 64) (x .address)
       → StoredOf W size mem buffer es (Refused (Fault e a)) mem buffer
-  stored-fault e a x q en ea =
+  stored-fault ok e a x q en small ea =
+      let b = ea ∙ byte-is W (length mem) (x .address) (length (x .bytes)) ok small (is-outside W (length mem) es x q) in
       record {
-        answer = ap Refused (ap₂ Fault en ea) ∙ sym (ap (λ (o : Option Element). by o short) q);
+        answer = ap Refused (ap₂ Fault en b) ∙ sym (ap (λ (o : Option Element). by o short) q);
         memory = refl;
         patch = refl;
       }

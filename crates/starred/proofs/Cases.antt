@@ -8,7 +8,7 @@ use Rattle.writes.specs.Sets.{join, runs, writesAt}
 use Rattle.writes.specs.Elements.{written, below, from, splice, spliceAll, stepsFrom}
 use Rattle.window.specs.Overwriting.{overwritten}
 use Rattle.writes.specs.Encoding.{runThen, runsThen, trailer, encodeRuns, encode}
-use Rattle.window.specs.Window.{windowOk, inWindow}
+use Rattle.window.specs.Window.{windowOk, inWindow, outsideFrom}
 use Rattle.elements.specs.Machine.{bitAt}
 use Rattle.elements.specs.Counter.{lowestSet, countIn, maskBit}
 use Rattle.elements.specs.Elements.{activeAt, elementAt, actives, elements}
@@ -17,7 +17,7 @@ use Rattle.starred.specs.Cases.{cases, StarredCases}
 
 pub starred-cases : StarredCases
 unfolding classes classAt position any everyBelow inside belongs has multipleOf storeOf indexOf decodeOf rowOf leVal leBytes join runs
-    writesAt overwritten written below from splice spliceAll runThen runsThen trailer encodeRuns encode windowOk inWindow bitAt
+    writesAt overwritten written below from splice spliceAll runThen runsThen trailer encodeRuns encode windowOk inWindow outsideFrom bitAt
     lowestSet countIn
     maskBit activeAt elementAt actives elements patchOf lengthOk registersOk firstOutside decided verdictOf stepsFrom cases
 starred-cases = refl

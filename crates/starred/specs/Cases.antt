@@ -93,6 +93,10 @@ low = 0xF8 ∷ 0xFF ∷ 0xFF ∷ 0xFF ∷ 0x78 ∷ 0x56 ∷ 0x34 ∷ 0x12 ∷ re
 abbrev pub high : List ℕ
 high = 1 ∷ 0 ∷ 0 ∷ 0 ∷ 0 ∷ 0 ∷ 0 ∷ 0x20 ∷ replicate 8 0
 
+-- one that takes 1000h to FFFFFFFFFFFFFFFCh
+abbrev pub top : List ℕ
+top = 0xFC ∷ 0xEF ∷ 0xFF ∷ 0xFF ∷ 0xFF ∷ 0xFF ∷ 0xFF ∷ 0xFF ∷ replicate 8 0
+
 -- ---- the table
 
 -- a word on a machine with a window of zeros, and what decoding, the verdict, the memory and the count of P8 as a counter must be. The
@@ -147,6 +151,8 @@ cases =
     ∷ case 0xA1606000 streaming (on zeros 0x00 0x80) 0x1000 32 (strided 10 (pos 0) 0) (Done 0 0 4 0) (replicate 32 0) 0
     -- "0013h (byte count 9) elements 0 and 1"
     ∷ case 0xA1606000 streaming (on zeros 0x13 0x00) 0x1000 32 (strided 10 (pos 0) 0) (Done 2 16 32 1) (placedAt 32 0 (rows 0)) 9
+    -- document 02 (ii): "A doubleword at FFFFFFFFFFFFFFFCh over a 16-byte window ending at 2^64 reports address 0."
+    ∷ case 0xE581A000 plain (on top 0 0) 0xFFFFFFFFFFFFFFF0 16 (scatter 4 None) (Refused (Fault 0 0)) (replicate 16 0) 0
     ∷ []
 
 -- ---- what the definitions say
@@ -172,6 +178,6 @@ outcome c =
 abbrev pub expected : Case → Outcome
 expected c = record { decoded = c .decoded; verdict = c .verdict; memory = c .memory; count = c .count }
 
--- every case of the table comes out as document 01 says
+-- every case of the table comes out as the papers say
 abbrev pub StarredCases : Type 0
 StarredCases = map outcome cases ≡ map expected cases

@@ -132,9 +132,12 @@ pub fn store_strided(
         (now (memory .exit)) (now (patch .exit)) ⌝ }
 {
     match find_outside(s, vb, base, memory.len() as u64) {
-        Search::Outside { element, address } => Verdict::Refused {
-            refusal: Refusal::Fault { element, address },
-        },
+        Search::Outside { element, address } => {
+            let address = window::first_outside(base, memory.len() as u64, address);
+            Verdict::Refused {
+                refusal: Refusal::Fault { element, address },
+            }
+        }
         Search::Inside => {
             if s.high <= s.low {
                 return store_none(base, memory, patch);

@@ -141,9 +141,12 @@ pub fn store_vector(
     let stored = elements::register_of(z, vb, v.stored);
     let mut keys = [0u32; 64];
     match gathering::gather_vector(v, offsets, governing, base, memory.len() as u64, &mut keys) {
-        Gathered::Outside { element, address } => Verdict::Refused {
-            refusal: Refusal::Fault { element, address },
-        },
+        Gathered::Outside { element, address } => {
+            let address = window::first_outside(base, memory.len() as u64, address);
+            Verdict::Refused {
+                refusal: Refusal::Fault { element, address },
+            }
+        }
         Gathered::Keys { n } => finish(&keys, n, v.step, v.size, stored, base, memory, patch),
     }
 }

@@ -31,16 +31,16 @@ p then q = ((λ a. q .0 (p .0 a)), (λ c. p .1 (q .1 c)))
 
 -- ---- the table
 
-fault-number : (o : Option Element) → refusalNumber (faultOf o) ≡ 7
-fault-number none = refl
-fault-number (some x) = refl
+fault-number : (W L : ℕ) (o : Option Element) → refusalNumber (faultOf W L o) ≡ 7
+fault-number W L none = refl
+fault-number W L (some x) = refl
 
 line : {n : ℕ} {c : Bool} {x : Refusal} → refusalNumber x ≡ suc n → Numbers (row (suc n) c x)
 line e = record { same = e; some = λ q. omega arith }
 
 pub table-numbered : TableNumbered
 table-numbered f m W L d room =
-    let fault = line (fault-number (firstOutside W L (elementsFor m d))) in
+    let fault = line (fault-number W L (firstOutside W L (elementsFor m d))) in
     (line refl, (line refl, (line refl, (line refl, (line refl, (line refl, (fault, (line refl, tt))))))))
 
 pub table-in-order : TableInOrder

@@ -16,7 +16,7 @@ use Rattle.encoding.specs.declared.Store.{Store}
 use Rattle.encoding.specs.declared.Store.the-variants.{Scatter, Strided, Quadword}
 use Rattle.writes.specs.Encoding.{encode}
 use Rattle.writes.specs.Elements.{Element, netEffect, stepsOf}
-use Rattle.window.specs.Window.{windowOk, inWindow}
+use Rattle.window.specs.Window.{windowOk, inWindow, byteOutside}
 use Rattle.elements.specs.Machine.{Machine}
 use Rattle.elements.specs.Stores.{sizeOf}
 use Rattle.elements.specs.Elements.{elements}
@@ -99,10 +99,11 @@ abbrev pub found : Option Element → Bool
 found none = false
 found (some x) = true
 
--- "lowest such element, its first address"
-abbrev pub faultOf : Option Element → Refusal
-faultOf none = Fault 0 0
-faultOf (some x) = Fault (x .number) (x .address)
+-- document 02 (ii): "keep the lowest faulting element, and return the address, modulo 2^64, of the first of its bytes [..] that isn't in
+-- the window"
+abbrev pub faultOf : ℕ → ℕ → Option Element → Refusal
+faultOf W L none = Fault 0 0
+faultOf W L (some x) = Fault (x .number) (byteOutside W L (x .address) (length (x .bytes)))
 
 -- ---- the table
 
@@ -125,7 +126,7 @@ table f m W L d room =
     ∷ row 4 (undefined f d) Undefined
     ∷ row 5 (illegalFor f d) Illegal
     ∷ row 6 (stackFor f m d) Stack
-    ∷ row 7 (found (firstOutside W L (elementsFor m d))) (faultOf (firstOutside W L (elementsFor m d)))
+    ∷ row 7 (found (firstOutside W L (elementsFor m d))) (faultOf W L (firstOutside W L (elementsFor m d)))
     ∷ row 8 (ltb room (length (patchOf (elementsFor m d)))) NoRoom
     ∷ []
 

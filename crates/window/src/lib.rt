@@ -1,6 +1,7 @@
 // Little-endian numbers in lent bytes, bytes copied, and the window's tests.
 ghost use mathlib.Core.Path.{_≡_};
-ghost use Prim.Native.Nat.{_+_, _-_, _^_, _≤_, _<_};
+ghost use mathlib.Core.Bool.{cond};
+ghost use Prim.Native.Nat.{_+_, _-_, _%_, _^_, _≤_, _<_};
 ghost use lib.Dec.{leb};
 ghost use lib.ListN.{length, take, drop};
 ghost use Rattle.window.specs.LittleEndian.{leVal, leBytes};
@@ -232,4 +233,14 @@ pub fn is_past(base: u64, limit: u64, start: u64) -> bool
     ensures { λ r. ⌜ r ≡ leb limit (offsetIn base start) ⌝ }
 {
     limit <= std::num::wrapping_sub_u64(start, base)
+}
+
+// The first byte from `start` on that isn't in the window: that at `start`, or else the one behind the window, modulo 2^64.
+pub fn first_outside(base: u64, room: u64, start: u64) -> u64
+    ensures { λ r. ⌜ r ≡ cond (inWindow base room start 1) ((base + room) % 2 ^ 64) start ⌝ }
+{
+    if inside(base, room, start, 1) {
+        return std::num::wrapping_add_u64(base, room);
+    }
+    start
 }

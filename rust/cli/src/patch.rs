@@ -26,8 +26,9 @@ Where the model refuses, OUT is left as it was. OUT may not be FILE.
         store_help!(),
         "
 With --json the answer is an object. Its keys: verdict, verdict_name, not_given (the note's
-registers), detail (element and address of a fault), active_elements, bytes_moved, steps, length
-(the patch's), patch (its bytes in hexadecimal). They are null where there is nothing to say.
+registers), detail (of a fault: element, and address, which is that of its first byte outside the
+window, modulo 2^64), active_elements, bytes_moved, steps, length (the patch's), patch (its bytes in
+hexadecimal). They are null where there is nothing to say.
 
 Exit status: 0 done, 1 refused by the model, 2 bad usage, a file that can't be read or written, or a
 register that is required and not given.

@@ -21,7 +21,7 @@ pub fn picture(base: u64, memory: &[u8], marked: &[bool]) -> String {
         if lines.len() <= ALL || near(number) {
             text += &gap(&mut hidden);
             let address = numbers::address(base.wrapping_add((number * LINE) as u64));
-            text += &format!("  {address} {}\n", line(bytes, marked));
+            text += &format!("  {address} {}\n", line(bytes, marked, ["[", "]"]));
         } else {
             hidden += 1;
         }
@@ -38,18 +38,19 @@ fn gap(hidden: &mut usize) -> String {
     }
 }
 
-fn line(bytes: &[u8], marked: &[bool]) -> String {
+/// Bytes, each behind a space or a bracket, with brackets around the marked ones.
+pub fn line(bytes: &[u8], marked: &[bool], [open, close]: [&str; 2]) -> String {
     let (mut text, mut inside) = (String::new(), false);
     for (byte, marked) in bytes.iter().zip(marked) {
         text += match (inside, marked) {
-            (false, true) => "[",
-            (true, false) => "]",
+            (false, true) => open,
+            (true, false) => close,
             _ => " ",
         };
         text += &format!("{byte:02X}");
         inside = *marked;
     }
-    text + if inside { "]" } else { "" }
+    text + if inside { close } else { "" }
 }
 
 #[cfg(test)]
@@ -58,8 +59,9 @@ mod tests {
 
     #[test]
     fn lines() {
-        assert_eq!(line(&[1, 2, 3, 4], &[false, true, true, false]), " 01[02 03]04");
-        assert_eq!(line(&[1, 2], &[true, true]), "[01 02]");
+        let line = |bytes: &[u8], marked: &[bool]| line(bytes, marked, ["(", "]"]);
+        assert_eq!(line(&[1, 2, 3, 4], &[false, true, true, false]), " 01(02 03]04");
+        assert_eq!(line(&[1, 2], &[true, true]), "(01 02]");
         assert_eq!(line(&[], &[]), "");
     }
 

@@ -5,7 +5,7 @@ use crate::command::{Command, Failure, Report};
 use crate::json::Json;
 use crate::known::{self, Known};
 use crate::missing::{Missing, REQUIRE};
-use crate::picture::picture;
+use crate::picture::{line, picture};
 use crate::store::{self, Described};
 use crate::{numbers, verdicts};
 use starshackle::{
@@ -24,16 +24,19 @@ address and bytes, and the window, with the bytes that active elements have writ
 Of a long window only the lines with written bytes and their neighbours are shown.
 The counts: active elements, bytes moved, and steps, which are the active elements that don't start
 where the active one before them ends.
-All this is the proved model's answer. The assembly text and the note about registers that aren't
-given are not proved.
+A fault (verdict 7) names the lowest active element with a byte outside the window, and the address,
+modulo 2^64, of the first of its bytes that isn't in the window. That byte is shown in ( ).
+All this is the proved model's answer. The assembly text, the note about registers that aren't
+given, and the note that numbers the byte in ( ), are not proved.
 
 ",
         store_help!(),
         "
 With --json the answer is an object. Its keys: word, verdict, verdict_name, class, class_name,
 fields, counter, assembly (as in `starshackle decode`), not_given (the note's registers), detail
-(element and address of a fault), active_elements, bytes_moved, steps, elements (each with element,
-active, address, bytes), window (address, length, memory). They are null where there is nothing to
+(of a fault: element, and address, which is that of its first byte outside the window, modulo 2^64),
+active_elements, bytes_moved, steps, elements (each with element, active, address, which is that of
+its first byte, bytes), window (address, length, memory). They are null where there is nothing to
 say.
 
 Exit status: 0 done, 1 refused by the model, 2 bad usage, an unreadable file, or a register that is
@@ -101,19 +104,28 @@ impl Answer {
         if self.elements.is_empty() {
             return None;
         }
-        let mut text = "element  state     address             bytes\n".to_string();
+        let (fault, mut text) = (self.fault(), String::new());
+        text += "element  state     address             bytes\n";
         for (number, row) in self.elements.iter().enumerate() {
-            let state = if row.element.active { "active" } else { "inactive" };
-            let address = numbers::address(row.element.address);
-            let bytes = numbers::bytes(&row.bytes, " ");
-            let mark = if self.faults(number) { "  <- fault" } else { "" };
-            text += &format!("{number:>7}  {state:<8}  {address}  {bytes}{mark}\n");
+            let byte = fault.filter(|(element, _)| *element == number).map(|(_, byte)| byte);
+            text += &row.text(number, byte);
+        }
+        if let Some((number, byte)) = fault {
+            let byte = format!("byte {byte} of element {number}, its first outside the window");
+            text += &format!("  note (not proved): in ( ) is {byte}\n");
         }
         Some(text)
     }
 
-    fn faults(&self, number: usize) -> bool {
-        matches!(self.outcome, Err(Refusal::Fault { element, .. }) if element == number as u64)
+    /// The element that faults, and which of its bytes has the address that the fault names. That
+    /// explains the answer and is no part of it.
+    fn fault(&self) -> Option<(usize, usize)> {
+        let (number, address) = match self.outcome {
+            Err(Refusal::Fault { element, address }) => (element as usize, address),
+            _ => return None,
+        };
+        let first = self.elements.get(number)?.element.address;
+        Some((number, address.wrapping_sub(first) as usize))
     }
 
     /// Whether the store's elements were held to the window, and it wasn't refused before.
@@ -177,6 +189,16 @@ impl Row {
     fn of(machine: &Machine, element: Element) -> Row {
         let bytes = machine.z.iter().skip(element.index as usize).take(element.bytes as usize);
         Row { element, bytes: bytes.copied().collect() }
+    }
+
+    /// Its line in the table, where it faults with this byte in brackets.
+    fn text(&self, number: usize, fault: Option<usize>) -> String {
+        let state = if self.element.active { "active" } else { "inactive" };
+        let address = numbers::address(self.element.address);
+        let marked: Vec<bool> = (0..self.bytes.len()).map(|byte| fault == Some(byte)).collect();
+        let bytes = line(&self.bytes, &marked, ["(", ")"]);
+        let mark = fault.map_or("", |_| "  <- fault");
+        format!("{number:>7}  {state:<8}  {address} {bytes}{mark}\n")
     }
 
     fn json(&self, number: usize) -> Json {

@@ -10,12 +10,22 @@ pub fn text<T>(outcome: &Result<T, Refusal>, counts: impl Fn(&T) -> String) -> S
     match outcome {
         Ok(done) => format!("{verdict}\n{}", counts(done)),
         Err(refusal) => {
-            let detail = detail(refusal).map_or(String::new(), |(what, number, address)| {
-                format!("  {what} {number} at {}\n", numbers::address(address))
-            });
+            let detail = detail_text(refusal).unwrap_or_default();
             format!("{verdict}: {}\n{detail}  nothing was written\n", verdict.cause())
         }
     }
+}
+
+/// The line about a refusal's detail.
+fn detail_text(refusal: &Refusal) -> Option<String> {
+    let (what, number, address) = detail(refusal)?;
+    let address = numbers::address(address);
+    Some(match refusal {
+        Refusal::Fault { .. } => {
+            format!("  {what} {number}, first byte outside the window at {address}\n")
+        }
+        _ => format!("  {what} {number} at {address}\n"),
+    })
 }
 
 /// The counts of a store.
@@ -72,6 +82,9 @@ mod tests {
         assert_eq!(shown(Refusal::Registers), format!("{registers}  nothing was written\n"));
         let no_room = "no room (verdict 8): the buffer is shorter than the patch\n";
         assert_eq!(shown(Refusal::NoRoom), format!("{no_room}  nothing was written\n"));
+        let fault = shown(Refusal::Fault { element: 2, address: 0x1005 });
+        let byte = "\n  element 2, first byte outside the window at 0x0000000000001005\n";
+        assert!(fault.ends_with(&format!("{byte}  nothing was written\n")));
         let outside = shown(Refusal::Outside { run: 2, address: 0x1005 });
         assert!(outside.ends_with("\n  run 2 at 0x0000000000001005\n  nothing was written\n"));
         assert_eq!(detail_json(&Err::<(), _>(Refusal::NoRoom)).to_string(), "null");

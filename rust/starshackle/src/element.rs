@@ -7,7 +7,7 @@ use crate::{element_numbers, Answer, Machine, Refusal};
 pub struct Element {
     /// Whether running the store writes it.
     pub active: bool,
-    /// Where it goes.
+    /// Where its first byte goes.
     pub address: u64,
     /// The index of its first byte in the Z buffer.
     pub index: u64,

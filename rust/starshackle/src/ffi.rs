@@ -113,9 +113,9 @@ extern "C" {
 }
 
 /// Runs a word's store over the window and makes its patch, writes all of `answer` and returns the
-/// verdict's number. The entries: the element of the detail, its address, active elements, bytes
-/// moved, the patch's length, steps. Where it is done, the patch stands in the first bytes of
-/// `patch`; other bytes stay as they were.
+/// verdict's number. The entries: the element that faults, the address of its first byte outside,
+/// active elements, bytes moved, the patch's length, steps. Where it is done, the patch stands in
+/// the first bytes of `patch`; other bytes stay as they were.
 ///
 /// ```
 /// use starshackle::{store_numbers, Flags, Machine, Window};
@@ -151,8 +151,8 @@ pub fn store_numbers(
 }
 
 /// Tells what an element of a word's store is, writes all of `answer` and returns the verdict's
-/// number. The entries: whether it is active, its address, the index of its first byte in the Z
-/// buffer, its bytes, and how many elements the store has.
+/// number. The entries: whether it is active, its first address, the index of its first byte in the
+/// Z buffer, its bytes, and how many elements the store has.
 ///
 /// ```
 /// use starshackle::{element_numbers, Machine};

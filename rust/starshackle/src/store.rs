@@ -50,7 +50,7 @@ pub struct Stored {
 /// assert_eq!(&buffer[done.length..], b"..");
 ///
 /// let window = Window { base: 0, memory: &mut memory[..20] };
-/// let fault = Refusal::Fault { element: 2, address: 16 };
+/// let fault = Refusal::Fault { element: 2, address: 20 }; // its first byte outside
 /// assert_eq!(store(&machine, window, 0xA160_6000, &mut buffer), Err(fault));
 ///
 /// let window = Window { base: 0, memory: &mut memory };

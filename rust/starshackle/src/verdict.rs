@@ -139,7 +139,7 @@ impl Display for Verdict {
 ///
 /// let fault = Refusal::Fault { element: 3, address: 0x1005 };
 /// let text = "fault (verdict 7): an active element has a byte outside the window: \
-///             element 3 at 0x0000000000001005";
+///             element 3, first byte outside at 0x0000000000001005";
 /// assert_eq!(fault.to_string(), text);
 /// ```
 #[derive(Clone, Copy, Debug, PartialEq, Eq, Hash)]
@@ -161,7 +161,8 @@ pub enum Refusal {
     Fault {
         /// The lowest active element with a byte outside the window.
         element: u64,
-        /// Where it starts.
+        /// The address, modulo 2^64, of the first of its bytes, in its own byte order, that isn't
+        /// in the window: the element's first address, or else the one behind the window.
         address: u64,
     },
     /// [`Verdict::NoRoom`].
@@ -229,7 +230,7 @@ impl Display for Refusal {
         write!(f, "{verdict}: {}", verdict.cause())?;
         match self {
             Refusal::Fault { element, address } => {
-                write!(f, ": element {element} at {address:#018X}")
+                write!(f, ": element {element}, first byte outside at {address:#018X}")
             }
             Refusal::Outside { run, address } => write!(f, ": run {run} at {address:#018X}"),
             _ => Ok(()),
@@ -261,6 +262,8 @@ mod tests {
         }
         let fault = Refusal::Fault { element: 1, address: 2 };
         assert_eq!(Refusal::answered(7, [1, 2]), fault);
+        let byte = ": element 1, first byte outside at 0x0000000000000002";
+        assert!(fault.to_string().ends_with(byte));
         let outside = Refusal::Outside { run: 1, address: 2 };
         assert_eq!(Refusal::answered(10, [1, 2]), outside);
         assert!(outside.to_string().ends_with(": run 1 at 0x0000000000000002"));

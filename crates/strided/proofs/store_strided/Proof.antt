@@ -1,9 +1,12 @@
 -- `store_strided`: a fault, nothing active, or the rest. Assumes nothing.
-use mathlib.Core.Path.{_≡_, sym, subst}
+use mathlib.Core.Path.{_≡_, sym, ap, _∙_, subst}
+use mathlib.Core.Bool.{cond}
+use Prim.Native.Nat.{ℕ, _+_, _%_, _^_}
 use mathlib.Core.List.{List}
 use native.Mathlib.Omega.{arith}
 use lib.ListN.{length}
 use borrow.Author.Needs.{needs}
+use Rattle.window.specs.Window.{inWindow}
 use Rattle.writes.specs.Elements.{Element}
 use Rattle.elements.specs.Accesses.{stridedElements}
 use Rattle.accesses.proofs.Joined.{strided-none}
@@ -62,13 +65,20 @@ finish-requires c κs =
     let a = st k in
     ((a .pre .0, omega (arith, f .if1 .left)), (a .pre .1 .0, (a .pre .1 .1, found k _ (t .enum-told .given .1))))
 
+first-outside-requires : tie.Need-first-outside-requires
+first-outside-requires c κs = search needs
+
 returns-2 : tie.Need-returns-2
 returns-2 c =
-    let e = c .before in
+    let e = c .before .before in
     let k = e .before .before in
     let a = st k in
+    let W = a .args .base in
+    let L = length (a .args .memory .now) in
     let o = found k _ (e .element .given .1) in
-    stored-fault (a .args .base) (a .args .s .size) (a .args .memory .now) (a .args .patch .now) (es k) _ _ (o .0) (o .1) (o .2) (o .3)
+    stored-fault W (a .args .s .size) (a .args .memory .now) (a .args .patch .now) (es k) (a .pre .1 .1) _ _ (o .0) (o .1) (o .2)
+    (omega (arith, o .3))
+    (c .first-outside .ensures ∙ ap (λ (x : ℕ). cond (inWindow W L x 1) ((W + L) % 2 ^ 64) x) (o .3))
 
 same-length-3 : tie.Need-same-length-3
 same-length-3 c = search needs
@@ -85,6 +95,7 @@ store-strided-spec =
     (tie.spec
     find-outside-requires
     enum-known-element
+    first-outside-requires
     enum-told
     store-none-requires
     same-length

@@ -1,11 +1,13 @@
 -- `store_vector`: keys, and all that follows from them. Assumes nothing.
 use mathlib.Core.Path.{_≡_, sym, ap, _∙_, subst}
 use mathlib.Core.List.{List}
-use Prim.Native.Nat.{ℕ, _*_, _/_}
+use mathlib.Core.Bool.{cond}
+use Prim.Native.Nat.{ℕ, _+_, _*_, _/_, _%_, _^_}
 use native.Mathlib.Omega.{arith}
 use lib.ListN.{length, drop}
 use borrow.Author.Needs.{needs}
 use Rattle.window.specs.LittleEndian.{Bytes}
+use Rattle.window.specs.Window.{inWindow}
 use Rattle.writes.specs.Elements.{Element}
 use Rattle.window.proofs.LittleEndian.{bytes-at, bytes-take, bytes-drop}
 use Rattle.elements.specs.Accesses.{VectorSound, vectorElements}
@@ -143,17 +145,21 @@ finish-requires c κs =
     let g = n .before .before .before in
     (es (read g), ready-at g _ (n .n .given .1))
 
+first-outside-requires : tie.Need-first-outside-requires
+first-outside-requires c κs = search needs
+
 returns : tie.Need-returns
 returns c =
-    let e = c .before in
+    let e = c .before .before in
     let g = e .before .before .before in
     let a = st (read g) in
-    let o = gathered-out (a .args .base) (length (a .args .memory .now)) (a .args .v .size) (es (read g)) (A g)
-    (g .gather-vector .result) (gathered g)
-    _ _ (e .element .given .1) in
+    let W = a .args .base in
+    let L = length (a .args .memory .now) in
+    let o = gathered-out W L (a .args .v .size) (es (read g)) (A g) (g .gather-vector .result) (gathered g) _ _ (e .element .given .1) in
     stored-listed (es-are (read g))
-    (stored-fault (a .args .base) (a .args .v .size) (a .args .memory .now) (a .args .patch .now) (es (read g)) _ _ (o .0) (o .1)
-    (o .2) (o .3))
+    (stored-fault W (a .args .v .size) (a .args .memory .now) (a .args .patch .now) (es (read g)) (a .pre .1 .1) _ _ (o .0) (o .1) (o .2)
+    (omega (arith, o .3))
+    (c .first-outside .ensures ∙ ap (λ (x : ℕ). cond (inWindow W L x 1) ((W + L) % 2 ^ 64) x) (o .3)))
 
 same-length : tie.Need-same-length
 same-length c = search needs
@@ -179,6 +185,7 @@ store-vector-spec =
     slice-aggregate-gather-vector
     gather-vector-requires
     enum-known-element
+    first-outside-requires
     enum-known-n
     slice-aggregate-finish
     finish-requires

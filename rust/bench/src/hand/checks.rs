@@ -31,10 +31,11 @@ pub fn bad_window(base: u64, length: u64) -> bool {
     length > LONGEST as u64 || length > 0 && base > u64::MAX - (length - 1)
 }
 
-/// The answer to a fault.
+/// The answer to a fault of an element at this offset in the window. Its first byte outside is its
+/// first, or else the one behind the window.
 #[cold]
-pub fn fault(answer: &mut [u64; 6], element: usize, address: u64) -> u64 {
-    (answer[0], answer[1]) = (element as u64, address);
+pub fn fault(answer: &mut [u64; 6], element: usize, offset: u64, base: u64, length: u64) -> u64 {
+    (answer[0], answer[1]) = (element as u64, base.wrapping_add(offset.max(length)));
     FAULT
 }
 

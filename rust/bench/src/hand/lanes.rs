@@ -97,9 +97,9 @@ impl<'a, const ESIZE: usize, const SIZE: usize, const EXTENSION: u8>
         any
     }
 
-    /// Tells the lowest active element outside the window, of which there is one.
+    /// Tells the lowest active element outside the window of this length, of which there is one.
     #[cold]
-    pub fn fault(self, answer: &mut [u64; 6]) -> u64 {
+    pub fn fault(self, length: u64, answer: &mut [u64; 6]) -> u64 {
         let mut first = None;
         self.each(|lane| {
             if lane.active && self.is_outside(lane.offset) {
@@ -107,7 +107,7 @@ impl<'a, const ESIZE: usize, const SIZE: usize, const EXTENSION: u8>
             }
         });
         let (e, offset) = first.expect("an element is outside");
-        fault(answer, e, self.base.wrapping_add(offset))
+        fault(answer, e, offset, self.base, length)
     }
 }
 

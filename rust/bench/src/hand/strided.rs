@@ -87,7 +87,7 @@ impl<'a> Stretch<'a> {
         let offset = |e: usize| self.start.wrapping_add((e * SIZE) as u64);
         let mut elements = self.low / SIZE..self.high / SIZE;
         let e = elements.find(|&e| offset(e) >= room).expect("an element is outside");
-        fault(answer, e, lent.base.wrapping_add(offset(e)))
+        fault(answer, e, offset(e), lent.base, lent.length)
     }
 
     /// The active bytes of each register, with where the first lies, counted from element 0.

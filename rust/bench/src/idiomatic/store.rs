@@ -65,11 +65,13 @@ fn try_store(
 
 /// Verdict 7.
 fn check_elements(access: &Access, window: &Window) -> Result<(), Refusal> {
-    let outside = |element: &Element| {
-        element.active && window.offset(element.address, element.bytes.len()).is_none()
-    };
-    match access.elements().enumerate().find(|(_, element)| outside(element)) {
-        None => Ok(()),
-        Some((number, Element { address, .. })) => Err(Refusal::Fault { element: number, address }),
+    for (number, Element { active, address, bytes }) in access.elements().enumerate() {
+        if active && window.offset(address, bytes.len()).is_none() {
+            let mut addresses = (0..bytes.len()).map(|k| address.wrapping_add(k as u64));
+            let outside = addresses.find(|byte| window.offset(*byte, 1).is_none());
+            let address = outside.expect("a byte of the element is outside");
+            return Err(Refusal::Fault { element: number, address });
+        }
     }
+    Ok(())
 }

@@ -13,9 +13,10 @@ pub struct Window {
 /// Sets the registers that the word names; what they don't decide stays as it is.
 pub fn aim(random: &mut Random, class: &Class, window: &Window, input: &mut Input) {
     match class.form {
-        Form::Strided { registers, immediate } => {
-            let start = counter(random, class, window, input);
-            strided(random, start, registers, immediate, input);
+        Form::Strided { .. } => {
+            let (low, high) = counter(random, class, input);
+            let start = start(random, window, low, high);
+            strided(random, class, start, input);
         }
         _ => {
             let targets = targets(random, class, window, input);
@@ -139,8 +140,9 @@ fn quadword(targets: &[u64], input: &mut Input) {
     }
 }
 
-/// Sets the counter and tells where the store is to start.
-fn counter(random: &mut Random, class: &Class, window: &Window, input: &mut Input) -> u64 {
+/// Sets the counter and tells the first active byte, counted from the first element's, and the one
+/// behind the last.
+pub fn counter(random: &mut Random, class: &Class, input: &mut Input) -> (u64, u64) {
     let count = class.elements(input.vb);
     let border = match random.below(8) {
         0 => random.below(4 * input.vb / 8 + 1),
@@ -152,8 +154,11 @@ fn counter(random: &mut Random, class: &Class, window: &Window, input: &mut Inpu
     let from = (8 + PREDICATE.of(input.word)) * input.vb / 8;
     input.p[from..from + 2].copy_from_slice(&value.to_le_bytes());
     let border = border.min(count) as u64 * 8;
-    let (low, high) = if inverted { (border, count as u64 * 8) } else { (0, border) };
-    start(random, window, low, high)
+    if inverted {
+        (border, count as u64 * 8)
+    } else {
+        (0, border)
+    }
 }
 
 /// A counter, of any element size, by which the doublewords below a border are active, or those
@@ -193,7 +198,12 @@ fn start(random: &mut Random, window: &Window, low: u64, high: u64) -> u64 {
 /// Nine times this is 1 modulo 2^64.
 const NINTH: u64 = 0x8E38_E38E_38E3_8E39;
 
-fn strided(random: &mut Random, start: u64, registers: usize, immediate: bool, input: &mut Input) {
+/// Sets the registers by which a strided store starts there.
+pub fn strided(random: &mut Random, class: &Class, start: u64, input: &mut Input) {
+    let (registers, immediate) = match class.form {
+        Form::Strided { registers, immediate } => (registers, immediate),
+        _ => unreachable!("only a strided store has a start"),
+    };
     let (m, n) = (INDEX.of(input.word), BASE.of(input.word));
     let base = match immediate {
         true => {

@@ -138,13 +138,25 @@ fn stack_is_refused(input: &Input, class: &Class, elements: &[Element]) -> bool 
     from_sp && checked && input.sp % 16 != 0
 }
 
-/// The refusal for the lowest active element with a byte outside the window.
+/// The refusal for the lowest active element with a byte outside the window: its number, and the
+/// address of the byte.
 pub fn fault(input: &Input, elements: &[Element]) -> Option<Outcome<6>> {
     let window = u128::from(input.base)..input.end();
     let outside = |element: &Element| element.addresses().any(|byte| !window.contains(&byte));
     let e = elements.iter().position(|element| element.active && outside(element))?;
-    let numbers = [e as u64, elements[e].address, 0, 0, 0, 0];
-    Some(Outcome { verdict: FAULT, numbers })
+    let address = byte_outside(input, &elements[e]).expect("modulo 2^64 a byte is outside too");
+    Some(Outcome { verdict: FAULT, numbers: [e as u64, address, 0, 0, 0, 0] })
+}
+
+/// The address, modulo 2^64, of the first of an element's bytes that isn't in the window.
+fn byte_outside(input: &Input, element: &Element) -> Option<u64> {
+    for byte in element.addresses() {
+        let address = byte % (1 << 64);
+        if address < input.base.into() || address >= input.end() {
+            return Some(address as u64);
+        }
+    }
+    None
 }
 
 /// Writes the active elements to the window's memory, in ascending number.

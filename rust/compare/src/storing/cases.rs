@@ -201,7 +201,7 @@ fn the_largest_patch_of_a_store() {
     assert_eq!(answer(&whole), done(128, 1_024, 1_040, 1));
     assert_eq!((left(&whole, 1_040).memory, left(&whole, 1_040).buffer), (registers, patch));
     assert_eq!(left(&whole, 1_039).verdict, NO_ROOM);
-    assert_eq!(answer(&over(1_023, &four)), faulting(127, 0x13F8));
+    assert_eq!(answer(&over(1_023, &four)), faulting(127, 0x13FF));
 }
 
 #[test]
@@ -278,7 +278,7 @@ fn stretches_that_are_broken() {
 fn the_ends_of_windows() {
     let at = |offset| over(16, &Input { base: 0x1000, ..scatter(0xE580_A000, offset) });
     assert_eq!(answer(&at(8)), done(1, 8, 24, 1));
-    assert_eq!(answer(&at(9)), faulting(0, 0x1009));
+    assert_eq!(answer(&at(9)), faulting(0, 0x1010));
     let last = 0x10_0000 + LONGEST as u64 - 1;
     let around = bytes_at(16, &[LONGEST as u32 - 1, 0, 7, 7], &[1, 2, 3, 3]);
     let mut around = over(LONGEST, &Input { base: 0x10_0000, ..around });
@@ -297,9 +297,61 @@ fn the_top_of_the_address_space() {
     let head = [0x50, 0x52, 0xF8, 255, 255, 255, 255, 255, 255, 255, 8, 0];
     assert_eq!(left(&top, 24).buffer[..12], head);
     top.x[0] += 1;
-    assert_eq!(answer(&top), faulting(0, 0xFFFF_FFFF_FFFF_FFF9));
+    assert_eq!(answer(&top), faulting(0, 0));
     top.memory.push(0);
     assert_eq!(answer(&top), refused(WINDOW));
+}
+
+/// Stores of element 0 alone, which lies at `first`, over a window at `base` of so many bytes; each
+/// with its element's bytes.
+fn at(first: u64, base: u64, length: usize) -> [(Input, u64); 4] {
+    let scalar = |word| scatter(word, first.wrapping_sub(0x1000));
+    let mut two = strided(0xA160_6000, 0x0018);
+    two.x[0] = first;
+    let mut quadword = input(0xE43F_2041); // st1q { z1.q }, p0, [z2.d]
+    quadword.p[0] = 1;
+    quadword.z[32..40].copy_from_slice(&first.to_le_bytes());
+    let stores = [(scalar(0xE400_A000), 1), (scalar(0xE580_A000), 8), (two, 8), (quadword, 16)];
+    stores.map(|(input, size)| (over(length, &Input { base, ..input }), size))
+}
+
+/// Document 02 (ii): a doubleword at FFFFFFFFFFFFFFFCh over a 16-byte window ending at 2^64.
+#[test]
+fn a_fault_at_address_0() {
+    let [_, doubleword, strided, quadword] = at(!3, !15, 16);
+    for (store, _) in [doubleword, strided, quadword] {
+        assert_eq!(answer(&store), faulting(0, 0));
+        assert_eq!(address(&store, 0), 0xFFFF_FFFF_FFFF_FFFC);
+    }
+}
+
+/// Each place of an element to a window, and the address of the byte that faults there; of elements of
+/// more than `k` bytes.
+#[test]
+fn the_byte_that_faults() {
+    let faults = |k: u64, first, base, length, byte| {
+        for (store, size) in at(first, base, length) {
+            if k < size {
+                assert_eq!(answer(&store), faulting(0, byte), "{size} bytes at {first:X}");
+                assert_eq!(address(&store, 0), first);
+            }
+        }
+    };
+    faults(0, 0x1000, 0x1100, 64, 0x1000); // below the window
+    faults(0, 0x1040, 0x1000, 64, 0x1040); // behind it
+    faults(0, 0x1000, 0x1000, 0, 0x1000); // no window
+    faults(0, 64, 0, 64, 64); // a window at 0
+    faults(0, 0, 0, 0, 0);
+    faults(0, 0, !63, 64, 0); // a window up to 2^64
+    for k in 1..16 {
+        faults(k, 0x1000 - k, 0x1000, 64, 0x1000 - k); // from below into the window
+        faults(k, 0x1040 - k, 0x1000, 64, 0x1040); // from inside out of it
+        faults(k, 64 - k, 0, 64, 64);
+        faults(k, k.wrapping_neg(), !63, 64, 0); // and past 2^64
+        faults(k, k.wrapping_neg(), 0, 64, k.wrapping_neg()); // past 2^64 into it
+        faults(k + 1, 0x1000 - k, 0x1000, 1, 0x1000 - k); // over both its ends
+        faults(k, 0x1000 - k, 0x1000, 0, 0x1000 - k);
+    }
 }
 
 #[test]

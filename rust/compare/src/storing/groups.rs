@@ -26,6 +26,8 @@ const BITS: &[u64] = &[0, 1, 2, 3];
 const RUNS: &[u64] = &[0, 1, 2, 3, 4, 7, 8, 15, 16, 31, 32, 33, 63, 64];
 const STEPS: &[u64] = &[0, 1, 2, 3, 4, 7, 8, 15, 16, 31, 32, 33, 63, 64];
 const PAYLOAD: &[u64] = &[0, 1, 2, 7, 8, 9, 16, 64, 256, 512, 1016, 1024];
+const BYTE_OF_8: &[u64] = &[0, 1, 2, 3, 4, 5, 6, 7];
+const BYTE_OF_16: &[u64] = &[0, 1, 2, 3, 4, 5, 6, 7, 8, 9, 10, 11, 12, 13, 14, 15];
 const ONCE: &[u64] = &[1];
 
 pub const GROUPS: &[Group] = &[
@@ -61,6 +63,10 @@ pub const GROUPS: &[Group] = &[
     }),
     group("element passes 2^64, fault", ONCE, |s| once(s.passes_the_top())),
     group("fault at the first, a later, the last element", &[0, 1, 2], |s| s.faulting()),
+    group("byte of 1 that faults", &[0], |s| s.byte_that_faults(1, false)),
+    group("byte of 8 that faults", BYTE_OF_8, |s| s.byte_that_faults(8, false)),
+    group("byte of 8 that faults, strided", BYTE_OF_8, |s| s.byte_that_faults(8, true)),
+    group("byte of 16 that faults", BYTE_OF_16, |s| s.byte_that_faults(16, false)),
     group("address below its base, done", ONCE, |s| s.once(|s, _| s.is_below_base())),
     group("runs", RUNS, |s| s.done(|effect| effect.runs as u64)),
     group("bytes in runs", PAYLOAD, |s| s.done(|effect| effect.payload() as u64)),
@@ -182,20 +188,23 @@ impl Subject {
 
     /// Whether the element that faults has bytes on both sides of 2^64.
     fn passes_the_top(&self) -> bool {
-        let fault = self.right.as_ref().err().filter(|outcome| outcome.verdict == FAULT);
-        let element = fault.map(|outcome| &self.elements()[outcome.numbers[0] as usize]);
-        element.map_or(false, |element| element.end() > 1 << 64)
+        self.fault().map_or(false, |fault| fault.element.end() > 1 << 64)
     }
 
     /// Whether the first, a later or the last element faults: 0, 1 or 2.
     fn faulting(&self) -> Option<u64> {
-        let fault = self.right.as_ref().err().filter(|outcome| outcome.verdict == FAULT)?;
-        let element = fault.numbers[0];
-        Some(match element {
+        let number = self.fault()?.number;
+        Some(match number {
             0 => 0,
-            _ if element + 1 == self.elements().len() as u64 => 2,
+            _ if number + 1 == self.elements().len() as u64 => 2,
             _ => 1,
         })
+    }
+
+    /// Which byte of an element of so many bytes faults, in a store that is or isn't strided.
+    fn byte_that_faults(&self, size: usize, strided: bool) -> Option<u64> {
+        let fault = self.fault().filter(|fault| fault.element.size == size)?;
+        (self.is_strided() == strided).then(|| fault.byte())
     }
 
     /// Whether an active element lies below its base, so that the sum went round or down.

@@ -8,6 +8,8 @@ mod bits;
 mod cases;
 pub mod classes;
 mod effect;
+mod faulting;
+mod faults;
 pub mod generate;
 mod groups;
 pub mod input;
@@ -38,14 +40,16 @@ use tally::Tally;
 pub type Store = dyn Fn(&Machine, Window, u32, &mut [u8], &mut [u64; 6]) -> u64 + Sync;
 
 /// Stores that are compared where no number is given.
-pub const STORES: u64 = 700_000;
+pub const STORES: u64 = 800_000;
 /// Bytes from which patch buffers are taken.
 const NOISE: usize = 8192;
 
-/// The input with this number, in one of seven cases with its elements in stretches.
+/// The input with this number, in one of eight cases with its elements in stretches, and in one with
+/// an element that faults.
 fn input(number: u64) -> Input {
-    match number % 7 {
+    match number % 8 {
         6 => stretched::input(number),
+        7 => faulting::input(number),
         _ => shapes::input(number),
     }
 }

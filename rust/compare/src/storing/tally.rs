@@ -1,5 +1,6 @@
 //! How often the random stores, buffers and pairs hit what they have to hit.
 
+use super::faults::KINDS as FAULTS;
 use super::groups::{overlaps, Group, GROUPS};
 use super::joints::{KINDS, PLACES};
 use super::subject::Subject;
@@ -8,8 +9,10 @@ use crate::report::Report;
 use crate::verdicts::NO_ROOM;
 use std::cmp::Ordering;
 
-/// Rows that follow the groups': of each kind of joints one by class and one by place, then others.
-const JOINTS: usize = GROUPS.len();
+/// Rows that follow the groups': of each kind of faults one by class, of each kind of joints one by
+/// class and one by place, then others.
+const FAULT: usize = GROUPS.len();
+const JOINTS: usize = FAULT + FAULTS.len();
 const CALLS: usize = JOINTS + 2 * KINDS.len();
 const ROOMS: usize = CALLS + 1;
 const APPLIED: usize = ROOMS + 1;
@@ -31,18 +34,23 @@ pub struct Tally {
 impl Tally {
     pub fn new() -> Tally {
         let groups = GROUPS.iter().map(|Group { name, numbers, .. }| (name.to_string(), *numbers));
+        let faults =
+            FAULTS.iter().map(|kind| (format!("class, fault, {}", kind.name), kind.classes));
         let kinds = KINDS.iter().flat_map(|kind| {
             let [class, place] = ["class", "place"].map(|by| format!("{by}, {}", kind.name));
             [(class, kind.classes), (place, PLACES)]
         });
         let rows = ROWS.iter().map(|(name, numbers)| (name.to_string(), *numbers));
-        Tally { stores: 0, counts: Counts::new(groups.chain(kinds).chain(rows)) }
+        Tally { stores: 0, counts: Counts::new(groups.chain(faults).chain(kinds).chain(rows)) }
     }
 
     pub fn count(&mut self, subject: &Subject) {
         self.stores += 1;
         for (row, group) in GROUPS.iter().enumerate() {
             self.counts.hit(row, (group.of)(subject));
+        }
+        for (number, kind) in FAULTS.iter().enumerate() {
+            self.counts.hit(FAULT + number, kind.of(subject));
         }
         for (number, kind) in KINDS.iter().enumerate() {
             let (row, (hit, places)) = (JOINTS + 2 * number, kind.of(subject));

@@ -96,16 +96,6 @@ fn wrong_details() {
         ("a fault without its element", with(FAULT, |_, answer| answer[0] = 0)),
         ("a fault without its address", with(FAULT, |_, answer| answer[1] = 0)),
         ("exchanged", with(FAULT, |_, answer| answer.swap(0, 1))),
-        (
-            "the first byte outside",
-            with(FAULT, |s, answer| {
-                let size = s.elements()[answer[0] as usize].size as u64;
-                let offset = |address: u64| address.wrapping_sub(s.input.base);
-                let mut addresses = (0..size).map(|k| answer[1].wrapping_add(k));
-                let outside = |address: &u64| offset(*address) >= s.input.memory.len() as u64;
-                answer[1] = addresses.find(outside).unwrap_or(0);
-            }),
-        ),
         ("where it is done", with(DONE, |s, answer| answer[1] = s.input.base)),
         ("without room", with(NO_ROOM, |s, answer| answer[1] = s.input.base)),
     ] {

@@ -3,6 +3,7 @@
 mod answers;
 mod buffers;
 mod elements;
+mod faults;
 mod memory;
 mod patches;
 mod steps;

@@ -1,0 +1,75 @@
+//! What is shown of a fault: the byte that the verdict names, and the byte in ( ), which is it.
+
+use std::fs;
+use std::path::Path;
+use std::process::Command;
+
+/// The answer to a file.
+fn answer(options: &[&str], text: &str) -> String {
+    let file = Path::new(env!("CARGO_TARGET_TMPDIR")).join("faults.store");
+    fs::write(&file, text).unwrap();
+    let mut command = Command::new(env!("CARGO_BIN_EXE_starshackle"));
+    let output = command.arg("run").args(options).arg(file).output().unwrap();
+    assert!(output.stderr.is_empty(), "{text}");
+    String::from_utf8(output.stdout).unwrap()
+}
+
+/// Stores of element 0 alone, which lies at this address, with its bytes' number.
+fn stores(first: u64) -> [(u64, String); 4] {
+    let scatter = |word| format!("word = {word}\nx0 = {first}\nz2.d = 0 0\np0.d = 1 0\n");
+    let strided = format!("word = 0xA1606000\nx0 = {first}\npn8 = 0x0018\n");
+    let quadword = format!("word = 0xE43F2041\nz2.d = {first} 0\np0.d = 1 0\n");
+    [(1, scatter("0xE402A001")), (8, scatter("0xE582A001")), (8, strided), (16, quadword)]
+}
+
+/// The address in a line that starts so.
+fn address(line: &str, start: &str) -> Option<u64> {
+    u64::from_str_radix(line.strip_prefix(start)?.get(..16)?, 16).ok()
+}
+
+/// The address that the verdict names, and that of the byte in ( ).
+fn addresses(text: &str) -> (u64, u64) {
+    let detail = "  element 0, first byte outside the window at 0x";
+    let named = text.lines().find_map(|line| address(line, detail));
+    let row = text.lines().find(|line| line.ends_with("  <- fault")).unwrap();
+    let element = "      0  active    0x";
+    let first = address(row, element).unwrap();
+    // A space or a bracket stands before each byte.
+    let byte = (row.find('(').unwrap() - element.len() - 17) as u64 / 3;
+    let note = format!("in ( ) is byte {byte} of element 0, its first outside the window\n");
+    assert!(text.contains(&format!("  note (not proved): {note}")), "{text}");
+    (named.unwrap(), first.wrapping_add(byte))
+}
+
+/// The bytes before it are in the window, and it isn't; the element's address stays its first.
+#[test]
+fn the_byte_in_brackets() {
+    let mut faults = [0; 17];
+    for (base, length) in [(0x1000u64, 20), (0x1000, 3), (0x1000, 0), (0, 20), (!19, 20)] {
+        let is_inside = |address: u64| address.wrapping_sub(base) < length;
+        for n in (0..17).chain(length + 1..length + 18) {
+            let first = base.wrapping_add(n).wrapping_sub(16);
+            for (size, store) in stores(first) {
+                let outside = (0..size).find(|k| !is_inside(first.wrapping_add(*k)));
+                let machine = "vb = 16\nflags = sve sme2 sve2p1 streaming fa64";
+                let file = format!("{store}{machine}\nwindow = {base}\nlength = {length}\n");
+                let (text, json) = (answer(&[], &file), answer(&["--json"], &file));
+                let byte = match outside {
+                    Some(byte) => byte,
+                    None => {
+                        assert!(text.starts_with("done") && !text.contains("( )"), "{text}");
+                        continue;
+                    }
+                };
+                let named = first.wrapping_add(byte);
+                assert_eq!(addresses(&text), (named, named), "{text}");
+                let detail =
+                    format!("\"detail\": {{\"element\": 0, \"address\": \"0x{named:016X}\"}}");
+                let element = format!("\"active\": true, \"address\": \"0x{first:016X}\"");
+                assert!(json.contains(&detail) && json.contains(&element), "{json}");
+                faults[byte as usize] += 1;
+            }
+        }
+    }
+    assert!(faults[..16].iter().all(|count| *count > 0), "{faults:?}");
+}
