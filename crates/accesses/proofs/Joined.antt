@@ -9,14 +9,14 @@ use mathlib.Core.Option.{some}
 use lib.Dec.{leb, ltb}
 use lib.ListN.{length, drop, length-append}
 use borrow.Author.Tests.{eq-eqb, lt-ltb, le-ltb, lt-leb, le-leb}
-use Rattle.window.specs.LittleEndian.{Bytes}
+use Rattle.endian.specs.LittleEndian.{Bytes}
 use Rattle.writes.specs.Sets.{run, writesOf}
 use Rattle.writes.specs.Elements.{Element, InWindow, written, below, from, splice, spliceAll, netEffect, stepsFrom, stepsOf}
-use Rattle.window.specs.Overwriting.{overwritten}
-use Rattle.window.proofs.LittleEndian.{bytes-take, bytes-drop, bytes-append}
-use Rattle.window.proofs.Order.{two}
+use Rattle.endian.specs.Overwriting.{overwritten}
+use Rattle.endian.proofs.LittleEndian.{bytes-take, bytes-drop, bytes-append}
+use Rattle.endian.proofs.Order.{two}
 use Rattle.writes.proofs.Net.{splice-stretch}
-use Rattle.window.proofs.Parts.{length-over, over-join}
+use Rattle.endian.proofs.Parts.{length-over, over-join}
 use Rattle.elements.specs.Machine.{register}
 use Rattle.elements.specs.Elements.{actives}
 use Rattle.elements.specs.Accesses.{StridedSound, stridedActive, stridedAddress, stridedElement, stridedElements}

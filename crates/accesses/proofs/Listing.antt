@@ -18,9 +18,9 @@ use Rattle.encoding.specs.declared.StridedFields.{StridedFields}
 use Rattle.encoding.specs.declared.QuadwordFields.{QuadwordFields}
 use Rattle.encoding.specs.declared.Store.{Store}
 use Rattle.encoding.specs.declared.Store.the-variants.{Scatter, Strided, Quadword}
-use Rattle.window.specs.LittleEndian.{Bytes, leVal}
+use Rattle.endian.specs.LittleEndian.{Bytes, leVal}
 use Rattle.writes.specs.Elements.{Element}
-use Rattle.window.proofs.LittleEndian.{bytes-take, bytes-drop}
+use Rattle.endian.proofs.LittleEndian.{bytes-take, bytes-drop}
 use Rattle.elements.specs.Machine.{Machine, baseOf, indexOf, vector, predicate}
 use Rattle.elements.specs.Counter.{counterOf, maskBit}
 use Rattle.elements.specs.Stores.{stepOf, sizeOf, perRegister, countOf, signed32, offsetOf, startOf}

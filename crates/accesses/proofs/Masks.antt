@@ -5,7 +5,7 @@ use Prim.Native.Nat.{ℕ, _+_, _-_, _*_, _/_, _%_, _^_, _≤_, _<_}
 use native.Mathlib.Omega.{arith}
 use lib.Dec.{eqb, ltb, leb}
 use borrow.Author.Tests.{eq-eqb, lt-ltb, le-ltb, lt-leb, le-leb}
-use Rattle.window.proofs.Order.{two}
+use Rattle.endian.proofs.Order.{two}
 use Rattle.elements.specs.Counter.{unitOf, countIn, maskBit}
 use Rattle.elements.specs.Accesses.{borderOf, lowOf, highOf}
 use Rattle.elements.proofs.Leaves.{at-lowest}

@@ -10,9 +10,9 @@ use native.Mathlib.Omega.{arith}
 use borrow.Author.Tests.{eq-eqb, ltb-false, leb-true, leb-false, le-ltb}
 use lib.Dec.{eqb, ltb, leb}
 use lib.ListN.{length}
-use Rattle.window.specs.LittleEndian.{Bytes}
+use Rattle.endian.specs.LittleEndian.{Bytes}
 use Rattle.writes.specs.Elements.{Element, InWindow, stepsFrom}
-use Rattle.window.proofs.Order.{three}
+use Rattle.endian.proofs.Order.{three}
 use Rattle.writes.proofs.Counting.{OfSize}
 use Rattle.elements.specs.Counter.{unitOf, countIn, maskBit}
 use Rattle.elements.specs.Elements.{actives}
@@ -142,7 +142,7 @@ module _ (on : ℕ → Bool) (el : ℕ → Element) where
         (λ q. omega (arith, ap (stepsFrom none) (actives-on n e q), going-on n e (omega arith) q))
         (λ q. omega (arith, ap (stepsFrom none) (actives-off n e q), one-start n (suc e) (omega arith)))
 
-  -- elements of k bytes at consecutive addresses modulo 2^64, in a window: one stretch stepsFrom once
+  -- elements of k bytes at consecutive addresses modulo 2^64, in a window: one stretch starts once
   pub stretch-start : (k base n W L : ℕ) → OneStretch on → ((i : ℕ) → el i .address ≡ (base + i * k) % 2 ^ 64)
       → ((i : ℕ) → i < n → length (el i .bytes) ≡ k) → L ≤ 65536 → W + L ≤ 2 ^ 64 → InWindow W L (actives on el n 0)
       → stepsFrom none (actives on el n 0) ≤ 1

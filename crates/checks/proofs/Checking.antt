@@ -11,7 +11,7 @@ use Rattle.encoding.specs.declared.Feature.{Feature}
 use Rattle.encoding.specs.declared.Store.{Store}
 use Rattle.encoding.specs.declared.Store.the-variants as S
 use Rattle.encoding.proofs.Statements.{known-accepted}
-use Rattle.window.specs.LittleEndian.{Bytes}
+use Rattle.endian.specs.LittleEndian.{Bytes}
 use Rattle.writes.specs.Elements.{Element}
 use Rattle.window.specs.Window.{windowOk}
 use Rattle.elements.specs.Machine.{Machine}

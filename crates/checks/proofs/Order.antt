@@ -13,7 +13,7 @@ use Rattle.encoding.specs.declared.Decoded.{Decoded}
 use Rattle.encoding.proofs.Statements.{one-of}
 use Rattle.writes.specs.Elements.{Element}
 use Rattle.window.specs.Window.{windowOk}
-use Rattle.window.proofs.Order.{absurdly}
+use Rattle.endian.proofs.Order.{absurdly}
 use Rattle.elements.specs.Machine.{Machine}
 use Rattle.verdicts.specs.Verdicts.{elementsFor, sizeFor, lengthOk, registersOk, undefined, illegalFor, stack, stackFor}
 use Rattle.verdicts.specs.Verdicts.{decided}

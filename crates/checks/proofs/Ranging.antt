@@ -11,7 +11,7 @@ use lib.ListN.{length}
 use borrow.Author.Tests.{lt-ltb, le-ltb}
 use Rattle.writes.specs.Elements.{Element}
 use Rattle.window.specs.Window.{inWindow}
-use Rattle.window.proofs.Order.{two}
+use Rattle.endian.proofs.Order.{two}
 use Rattle.window.proofs.Windows.{in-window}
 use Rattle.elements.specs.Accesses.{StridedSound, stridedAddress, stridedElement, stridedElements}
 use Rattle.elements.specs.declared.StridedAccess.{StridedAccess}

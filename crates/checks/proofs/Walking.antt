@@ -9,7 +9,7 @@ use native.Mathlib.Omega.{arith}
 use lib.ListN.{length}
 use Rattle.writes.specs.Elements.{Element, InWindow}
 use Rattle.window.specs.Window.{inWindow}
-use Rattle.window.proofs.Order.{absurdly}
+use Rattle.endian.proofs.Order.{absurdly}
 use Rattle.window.proofs.Windows.{in-window-inv}
 use Rattle.elements.specs.Elements.{actives}
 use Rattle.accesses.proofs.Listing.{active-more, inactive-more, active-none}

@@ -5,7 +5,7 @@ ghost use mathlib.Core.List.{List};
 ghost use Prim.Native.Nat.{ℕ, _*_, _/_, _%_, _≤_};
 ghost use lib.ListN.{length};
 ghost use Rattle.encoding.specs.Encoding.{featureOf, refused};
-ghost use Rattle.window.specs.LittleEndian.{Bytes};
+ghost use Rattle.endian.specs.LittleEndian.{Bytes};
 ghost use Rattle.elements.specs.Machine.{machine};
 ghost use Rattle.elements.specs.Accesses.{VectorSound, vectorElements, StridedSound, stridedElements};
 ghost use Rattle.verdicts.specs.Verdicts.{onStack, someActive, stack};

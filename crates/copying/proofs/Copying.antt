@@ -6,9 +6,9 @@ use native.Mathlib.Nat.{zero-mul, suc-mul, mul-le-mul, mul-le-mul-right}
 use native.Mathlib.Numerals.{add-one}
 use native.Mathlib.Omega.{arith}
 use lib.ListN.{length, take, drop}
-use Rattle.window.specs.Overwriting.{overwritten}
-use Rattle.window.proofs.Copying as bytewise
-use Rattle.window.proofs.Copying.{copied-first, copied-more, copied-all}
+use Rattle.endian.specs.Overwriting.{overwritten}
+use Rattle.endian.proofs.Copying as bytewise
+use Rattle.endian.proofs.Copying.{copied-first, copied-more, copied-all}
 
 -- e of n elements are copied, and counted
 pub record EachCopied (src : List ℕ) (n size : ℕ) (dst : List ℕ) (elements bytes e : ℕ) : Type 0 where

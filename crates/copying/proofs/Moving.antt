@@ -7,9 +7,9 @@ use native.Mathlib.Omega.{arith}
 use lib.ListN.{length, take, drop, length-append, length-take, length-drop}
 use lib.Seq.{take-add, drop-drop}
 use Rattle.writes.specs.Elements.{Element}
-use Rattle.window.specs.Overwriting.{overwritten}
-use Rattle.window.proofs.Order.{two}
-use Rattle.window.proofs.Parts.{length-over, over-join, over-none, over-all}
+use Rattle.endian.specs.Overwriting.{overwritten}
+use Rattle.endian.proofs.Order.{two}
+use Rattle.endian.proofs.Parts.{length-over, over-join, over-none, over-all}
 use Rattle.elements.specs.Machine.{register}
 use Rattle.elements.specs.Accesses.{StridedSound, stridedElement, bytesFrom, stridedBytes}
 use Rattle.elements.specs.declared.StridedAccess.{StridedAccess}

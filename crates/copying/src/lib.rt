@@ -2,7 +2,7 @@
 ghost use mathlib.Core.Path.{_≡_};
 ghost use Prim.Native.Nat.{_+_, _-_, _*_, _≤_, _<_};
 ghost use lib.ListN.{length};
-ghost use Rattle.window.specs.Overwriting.{overwritten};
+ghost use Rattle.endian.specs.Overwriting.{overwritten};
 ghost use Rattle.elements.specs.Machine.{register};
 ghost use Rattle.elements.specs.Accesses.{StridedSound, stridedElement, bytesFrom, stridedBytes};
 ghost use Rattle.copying.specs.Parts.{PartOf};
@@ -31,7 +31,7 @@ fn copy_each(dst: &mut [u8], src: &[u8], n: usize, size: usize) -> Counts
     while e < n {
         let at = e * size;
         let to = at + size;
-        window::copy(&mut dst[at..to], &src[at..to]);
+        endian::copy(&mut dst[at..to], &src[at..to]);
         elements += 1;
         bytes += size as u64;
         e += 1;

@@ -5,8 +5,8 @@ use mathlib.Core.List.{List, [], _∷_, _++_, append-assoc}
 use native.Mathlib.Omega.{arith}
 use lib.ListN.{length}
 use Rattle.writes.specs.Encoding.{runThen, runsThen, trailer, encodeRuns}
-use Rattle.window.specs.Overwriting.{overwritten}
-use Rattle.window.proofs.Parts.{over-join, length-over}
+use Rattle.endian.specs.Overwriting.{overwritten}
+use Rattle.endian.proofs.Parts.{over-join, length-over}
 use Rattle.writes.proofs.Runs.{length-runThen, length-trailer}
 use Rattle.stretches.specs.Intervals.{Interval, interval, Separate}
 use Rattle.stretches.specs.Intervals.{total}

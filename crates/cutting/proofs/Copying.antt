@@ -9,11 +9,11 @@ use lib.Ieee.Fits.{and-l, and-r}
 use lib.ListN.{length, take, drop, getD, set, length-append}
 use lib.Seq.{length-take-le, take-at, drop-at, take-add, drop-cons, drop-drop, drop-append-add, set-split}
 use native.Mathlib.Numerals.{add-one}
-use Rattle.window.specs.LittleEndian.{Bytes, leVal, leBytes}
-use Rattle.window.specs.Overwriting.{overwritten}
-use Rattle.window.proofs.Putting.{over-next}
-use Rattle.window.proofs.LittleEndian.{leBytes-part}
-use Rattle.window.proofs.Parts.{length-part, length-over, part-is, part-over, over-join}
+use Rattle.endian.specs.LittleEndian.{Bytes, leVal, leBytes}
+use Rattle.endian.specs.Overwriting.{overwritten}
+use Rattle.endian.proofs.Putting.{over-next}
+use Rattle.endian.proofs.LittleEndian.{leBytes-part}
+use Rattle.endian.proofs.Parts.{length-part, length-over, part-is, part-over, over-join}
 use Rattle.cutting.proofs.Shapes.{length-headBytes}
 use Rattle.cutting.specs.Cutting.{headBytes, part, runBytes}
 

@@ -6,13 +6,13 @@ use mathlib.Core.Option.{Option, none, some, orElse, Option·getD}
 use native.Mathlib.Omega.{arith}
 use lib.ListN.{length, take, drop, getD}
 use lib.Seq.{getD-take, getD-drop}
-use Rattle.window.specs.LittleEndian.{Bytes}
+use Rattle.endian.specs.LittleEndian.{Bytes}
 use Rattle.writes.specs.Sets.{ByteWrite, IsSet, Run, runs, lookup, writesAt, writesOf, Apart, overlay}
 use Rattle.writes.specs.Encoding.{trailer, encodeRuns, encode}
 use Rattle.writes.specs.Elements.{Element, InSpace, InWindow, netEffect, written}
-use Rattle.window.specs.Overwriting.{overwritten}
-use Rattle.window.proofs.Order.{two, absurdly}
-use Rattle.window.proofs.LittleEndian.{bytes-take, bytes-drop, bytes-append}
+use Rattle.endian.specs.Overwriting.{overwritten}
+use Rattle.endian.proofs.Order.{two, absurdly}
+use Rattle.endian.proofs.LittleEndian.{bytes-take, bytes-drop, bytes-append}
 use Rattle.writes.proofs.Runs.{runs-writesOf, ascending-writesOf, ascending-more, length-trailer}
 use Rattle.writes.proofs.Lookup.{lookup-append, lookup-writesAt-below, lookup-writesAt-past, lookup-writesAt-at, ext-lookup}
 use Rattle.writes.proofs.Net.{ascending-spliceAll, net-in-window}

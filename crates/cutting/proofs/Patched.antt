@@ -3,10 +3,10 @@ use mathlib.Core.Path.{_≡_, ap, _∙_}
 use Prim.Native.Nat.{ℕ, _+_, _*_, _^_, _≤_}
 use mathlib.Core.List.{List, _++_}
 use lib.ListN.{length, drop}
-use Rattle.window.specs.LittleEndian.{Bytes}
+use Rattle.endian.specs.LittleEndian.{Bytes}
 use Rattle.writes.specs.Encoding.{encodeRuns, encode}
 use Rattle.writes.specs.Elements.{Element, netEffect, written}
-use Rattle.window.specs.Overwriting.{overwritten}
+use Rattle.endian.specs.Overwriting.{overwritten}
 use Rattle.ordering.specs.Keys.{entries, sorted}
 use Rattle.cutting.specs.Cutting.{Fits}
 use Rattle.stretches.specs.Intervals.{total}

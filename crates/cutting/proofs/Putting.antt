@@ -4,10 +4,10 @@ use Prim.Native.Nat.{ℕ, _+_, _≤_}
 use mathlib.Core.List.{List, [], _∷_, _++_}
 use native.Mathlib.Omega.{arith}
 use lib.ListN.{length, drop}
-use Rattle.window.specs.LittleEndian.{leBytes}
+use Rattle.endian.specs.LittleEndian.{leBytes}
 use Rattle.writes.specs.Encoding.{trailer}
-use Rattle.window.specs.Overwriting.{overwritten}
-use Rattle.window.proofs.Putting.{over-next}
+use Rattle.endian.specs.Overwriting.{overwritten}
+use Rattle.endian.proofs.Putting.{over-next}
 use Rattle.cutting.specs.Cutting.{headBytes}
 
 -- ---- a head and a trailer, part by part

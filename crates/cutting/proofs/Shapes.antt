@@ -4,7 +4,7 @@ use Prim.Native.Nat.{ℕ, _+_, _^_, _≤_}
 use mathlib.Core.List.{List, [], _∷_, _++_}
 use native.Mathlib.Omega.{arith}
 use lib.ListN.{length}
-use Rattle.window.specs.LittleEndian.{Bytes, leBytes}
+use Rattle.endian.specs.LittleEndian.{Bytes, leBytes}
 use Rattle.writes.specs.Sets.{Run, run, lookup, writesAt, writesOf, Apart}
 use Rattle.writes.specs.Encoding.{runThen}
 use Rattle.writes.proofs.Lookup.{lookup-append}

@@ -2,7 +2,7 @@
 use Prim.Native.Nat.{ℕ, zero, suc, _+_, _≤_}
 use mathlib.Core.List.{List, [], _∷_, _++_}
 use lib.ListN.{length, take, drop}
-use Rattle.window.specs.LittleEndian.{Bytes, leBytes}
+use Rattle.endian.specs.LittleEndian.{Bytes, leBytes}
 use Rattle.writes.specs.Sets.{Run, run}
 use Rattle.writes.specs.Elements.{Element}
 use Rattle.stretches.specs.Intervals.{Interval, interval}

@@ -4,7 +4,7 @@ ghost use mathlib.Core.List.{[], _∷_};
 ghost use Prim.Native.Nat.{_+_, _-_, _^_, _<_, _≤_};
 ghost use lib.ListN.{length};
 ghost use Rattle.writes.specs.Encoding.{trailer, encodeRuns};
-ghost use Rattle.window.specs.Overwriting.{overwritten};
+ghost use Rattle.endian.specs.Overwriting.{overwritten};
 ghost use Rattle.ordering.specs.Keys.{entries};
 ghost use Rattle.stretches.specs.Intervals.{Separate, total};
 ghost use Rattle.stretches.specs.Stretches.{merged, Ordered};
@@ -25,7 +25,7 @@ fn put_trailer(out: &mut [u8], at: usize, runs: usize)
     ensures { λ _. ⌜ now (out .exit) ≡ overwritten (now (out .entry)) at (trailer runs) ⌝ }
 {
     put_mark(out, at, 0x45);
-    window::put16(out, at + 2, runs as u64);
+    endian::put16(out, at + 2, runs as u64);
 }
 
 // A run's mark, start and length.
@@ -34,8 +34,8 @@ fn put_head(out: &mut [u8], at: usize, start: u64, len: u64)
     ensures { λ _. ⌜ now (out .exit) ≡ overwritten (now (out .entry)) at (headBytes start len) ⌝ }
 {
     put_mark(out, at, 0x52);
-    window::put64(out, at + 2, start);
-    window::put16(out, at + 10, len);
+    endian::put64(out, at + 2, start);
+    endian::put16(out, at + 10, len);
 }
 
 // Two bytes of memory from offset p on, put at index `at` as a number.
@@ -43,8 +43,8 @@ fn move2(out: &mut [u8], at: usize, memory: &[u8], p: usize)
     requires { ⌜ (at + 2 ≤ length (now out)) × (p + 2 ≤ length (now memory)) ⌝ }
     ensures { λ _. ⌜ now (out .exit) ≡ overwritten (now (out .entry)) at (part (now (memory .entry)) p 2) ⌝ }
 {
-    let x = window::le16(memory, p);
-    window::put16(out, at, x);
+    let x = endian::le16(memory, p);
+    endian::put16(out, at, x);
 }
 
 // Eight bytes.
@@ -52,8 +52,8 @@ fn move8(out: &mut [u8], at: usize, memory: &[u8], p: usize)
     requires { ⌜ (at + 8 ≤ length (now out)) × (p + 8 ≤ length (now memory)) ⌝ }
     ensures { λ _. ⌜ now (out .exit) ≡ overwritten (now (out .entry)) at (part (now (memory .entry)) p 8) ⌝ }
 {
-    let x = window::le64(memory, p);
-    window::put64(out, at, x);
+    let x = endian::le64(memory, p);
+    endian::put64(out, at, x);
 }
 
 // n bytes of memory from offset p on, put at index `at`. Parts are made only for lengths that one or two moves of a
@@ -82,7 +82,7 @@ fn copy_at(out: &mut [u8], at: usize, memory: &[u8], p: usize, n: usize)
         move8(out, to - 8, memory, q - 8);
         return;
     }
-    window::copy(&mut out[at..to], &memory[p..q]);
+    endian::copy(&mut out[at..to], &memory[p..q]);
 }
 
 // The run from offset a up to b: head and payload.

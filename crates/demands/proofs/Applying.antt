@@ -6,12 +6,12 @@ use mathlib.Core.List.{List, [], _∷_, _++_}
 use mathlib.Core.Logic.{_⊎_, inl, inr}
 use native.Mathlib.Omega.{arith}
 use lib.ListN.{length, getD}
-use Rattle.window.specs.LittleEndian.{Bytes}
+use Rattle.endian.specs.LittleEndian.{Bytes}
 use Rattle.writes.specs.Encoding.{PatchOf}
 use Rattle.writes.specs.Sets.{ByteWrite, Run, run, runs, overlay}
 use Rattle.writes.specs.Statements.{Among, here, there}
 use Rattle.window.specs.Window.{windowOk, inWindow}
-use Rattle.window.proofs.Order.{two, absurdly, not-both}
+use Rattle.endian.proofs.Order.{two, absurdly, not-both}
 use Rattle.writes.proofs.Overlay.{length-overlay, getD-overlay}
 use Rattle.writes.proofs.Runs.{bytes-encode}
 use Rattle.patch.specs.Answers.{appliedNumber}

@@ -15,14 +15,14 @@ use Rattle.encoding.specs.declared.Store.the-variants.{Scatter, Strided, Quadwo
 use Rattle.encoding.specs.declared.StridedFields.{StridedFields}
 use Rattle.encoding.proofs.Rows.{small-at}
 use Rattle.encoding.proofs.Statements.{accepted}
-use Rattle.window.specs.LittleEndian.{Bytes}
+use Rattle.endian.specs.LittleEndian.{Bytes}
 use Rattle.writes.specs.Elements.{Element, InSpace, InWindow, netEffect, stepsFrom, stepsOf}
 use Rattle.writes.specs.Encoding.{encode, Within}
 use Rattle.writes.specs.Sets.{runs}
 use Rattle.writes.specs.Sizes.{maxRuns, maxBytes}
 use Rattle.window.specs.Window.{windowOk}
 use Rattle.writes.proofs.Counting.{OfSize, in-space, steps-length, runs-steps, length-net}
-use Rattle.window.proofs.LittleEndian.{bytes-take, bytes-drop}
+use Rattle.endian.proofs.LittleEndian.{bytes-take, bytes-drop}
 use Rattle.writes.proofs.Runs.{length-encode}
 use Rattle.writes.proofs.Statements.{net-effect-is-a-set}
 use Rattle.window.proofs.Windows.{window-inv}

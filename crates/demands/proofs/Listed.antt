@@ -6,7 +6,7 @@ use mathlib.Core.Option.{some}
 use Prim.Native.Nat.{ℕ, zero, suc, _+_, _≤_, _<_}
 use native.Mathlib.Omega.{arith}
 use lib.ListN.{length}
-use Rattle.window.proofs.Order.{two, absurdly}
+use Rattle.endian.proofs.Order.{two, absurdly}
 use Rattle.writes.specs.Elements.{Element}
 use Rattle.window.specs.Window.{inWindow}
 use Rattle.elements.specs.Elements.{actives}

@@ -14,7 +14,7 @@ use Rattle.encoding.specs.Encoding.{classFor, refused}
 use Rattle.encoding.specs.declared.Store.{Store}
 use Rattle.encoding.specs.declared.Store.the-variants.{Scatter, Strided, Quadword}
 use Rattle.encoding.proofs.Statements.{known-accepted}
-use Rattle.window.proofs.Order.{both}
+use Rattle.endian.proofs.Order.{both}
 use Rattle.elements.specs.Machine.{Machine, register}
 use Rattle.elements.specs.Stores.{stepOf, sizeOf, perRegister, countOf, strideOf, registerIn, indexIn}
 use Rattle.elements.specs.Elements.{elementAt}

@@ -18,7 +18,7 @@ use Rattle.encoding.proofs.Statements.{known-accepted}
 use Rattle.writes.specs.Elements.{Element, InWindow, netEffect}
 use Rattle.writes.specs.Sets.{overlay}
 use Rattle.window.specs.Window.{windowOk, inWindow, byteOutside}
-use Rattle.window.proofs.Order.{two, absurdly, not-both}
+use Rattle.endian.proofs.Order.{two, absurdly, not-both}
 use Rattle.writes.proofs.Overlay.{length-overlay, getD-overlay}
 use Rattle.writes.proofs.Statements.{laid-as-written, written-last}
 use Rattle.window.proofs.Windows.{in-window, not-in-window, Least, byte-least}
@@ -188,7 +188,7 @@ fault-given f m W mem word buffer v mem′ buffer′ c =
           (outside-found W L es (x .0) (x .1) (outside-byte W L (x .0 .address) (length (x .0 .bytes)) (k .0) (k .1) (k .2))))),
     )
 
--- element x, by its number and address, is the first outside the window
+-- e is the number of the first element outside the window, and a the address of its first byte there
 record Faults (W L e a : ℕ) (xs : List Element) : Type 0 where
   element : Element
   first : firstOutside W L xs ≡ some element

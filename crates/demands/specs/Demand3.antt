@@ -7,7 +7,7 @@ use mathlib.Core.Option.{Option·getD}
 use mathlib.Core.Path.{_≡_}
 use lib.ListN.{length, getD, take, drop}
 use Rattle.encoding.specs.Decoding.{decodeOf}
-use Rattle.window.specs.LittleEndian.{Bytes}
+use Rattle.endian.specs.LittleEndian.{Bytes}
 use Rattle.writes.specs.Elements.{netEffect}
 use Rattle.writes.specs.Encoding.{PatchOf}
 use Rattle.writes.specs.Sets.{ByteWrite, lookup, runs}

@@ -2,8 +2,7 @@
 -- steps are counted for a test, and proved to be as many as the active elements that don't start so: one for a whole register that is
 -- contiguous and active." That a done store answers `stepsOf` its elements says `CountsOfDone` of demand 2. Assumes nothing.
 use Prim.Native.Nat.{ℕ, suc, _+_, _≤_, _<_}
-use mathlib.Core.Bool.{true}
-use mathlib.Core.List.{[]}
+use mathlib.Core.Bool.{true, false}
 use mathlib.Core.Path.{_≡_}
 use lib.ListN.{length}
 use Rattle.encoding.specs.Decoding.{decodeOf}
@@ -27,7 +26,7 @@ pub record StepsCounted : Type 0 where
   pub one : (m : Machine) (s : Store) → 0 < countOf m s → ((e : ℕ) → e < countOf m s → activeAt m s e ≡ true) → Contiguous m s
       → stepsOf (elements m s) ≡ 1
   -- none where nothing is active
-  pub none : (m : Machine) (s : Store) → elements m s ≡ [] → stepsOf (elements m s) ≡ 0
+  pub none : (m : Machine) (s : Store) → ((e : ℕ) → e < countOf m s → activeAt m s e ≡ false) → stepsOf (elements m s) ≡ 0
   -- no more than active elements
   pub most : (m : Machine) (s : Store) → stepsOf (elements m s) ≤ length (elements m s)
   -- and the patch has no more runs than steps were taken

@@ -68,7 +68,7 @@ pub(crate) fn sum(m: &[u8]) -> u64 {
     let mut t: u64 = 0;
     let mut i = 0;
     while i < m.len() {
-        t = std::num::wrapping_add_u64(t, window::wide(m[i]));
+        t = std::num::wrapping_add_u64(t, endian::wide(m[i]));
         i += 1;
     }
     t

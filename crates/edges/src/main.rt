@@ -70,7 +70,7 @@ fn shown(memory: &[u8]) {
     let mut i = 0;
     while i < memory.len() {
         say(b" ");
-        io::print_hex(1, window::wide(memory[i]), 2);
+        io::print_hex(1, endian::wide(memory[i]), 2);
         i += 1;
     }
     say(b"\n");

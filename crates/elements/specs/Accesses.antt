@@ -12,7 +12,7 @@ use Rattle.encoding.specs.declared.Extension.the-variants.{None, Uxtw, Sxtw}
 use Rattle.encoding.specs.declared.ScatterFields.{ScatterFields}
 use Rattle.encoding.specs.declared.StridedFields.{StridedFields}
 use Rattle.encoding.specs.declared.QuadwordFields.{QuadwordFields}
-use Rattle.window.specs.LittleEndian.{leVal}
+use Rattle.endian.specs.LittleEndian.{leVal}
 use Rattle.writes.specs.Elements.{Element}
 use Rattle.elements.specs.Machine.{Machine, baseOf, indexOf, register, bitAt}
 use Rattle.elements.specs.Counter.{counterOf, unitOf, countIn}
@@ -114,6 +114,21 @@ stridedAccess m c f =
       step = stepOf c;
       size = sizeOf c;
       per = perRegister m c;
+      nreg = c .nreg;
+      first = f .first;
+      stride = strideOf c;
+    }
+
+-- by its first address and its range; doublewords are VB/8 a register
+abbrev pub stridedOf : Class → StridedFields → ℕ → ℕ → ℕ → ℕ → StridedAccess
+stridedOf c f vb start low high =
+    record {
+      start = start;
+      low = low;
+      high = high;
+      step = stepOf c;
+      size = sizeOf c;
+      per = vb / 8;
       nreg = c .nreg;
       first = f .first;
       stride = strideOf c;

@@ -3,7 +3,7 @@ use Prim.Native.Nat.{ℕ, _+_, _/_, _%_, _^_}
 use mathlib.Core.Bool.{Bool, not, cond, _&&_}
 use lib.Dec.{eqb, ltb, leb}
 use lib.ListN.{take}
-use Rattle.window.specs.LittleEndian.{leVal}
+use Rattle.endian.specs.LittleEndian.{leVal}
 use Rattle.elements.specs.Machine.{Machine, predicate}
 
 -- "Classes 8 to 11 use P register 8 + Pc as a counter." A counter is its register's low 16 bits.

@@ -14,7 +14,7 @@ use Rattle.encoding.specs.declared.Extension.{Extension}
 use Rattle.encoding.specs.declared.Extension.the-variants.{None, Uxtw, Sxtw}
 use Rattle.encoding.specs.declared.Store.{Store}
 use Rattle.encoding.specs.declared.Store.the-variants.{Scatter, Strided, Quadword}
-use Rattle.window.specs.LittleEndian.{leVal}
+use Rattle.endian.specs.LittleEndian.{leVal}
 use Rattle.elements.specs.Machine.{Machine, baseOf, indexOf, vector, predicate, bitAt}
 use Rattle.elements.specs.Counter.{counterOf, maskBit}
 

@@ -10,10 +10,10 @@ ghost use lib.ListN.{length, getD};
 ghost use mir.Syntax.{w64};
 ghost use mir.Val.{ofZ};
 ghost use Rattle.encoding.specs.Encoding.{classFor, refused};
-ghost use Rattle.elements.specs.Machine.{Machine, machine, register, bitAt};
+ghost use Rattle.elements.specs.Machine.{machine, register, bitAt};
 ghost use Rattle.elements.specs.Counter.{counterOf, lowestSet, countIn};
 ghost use Rattle.elements.specs.Stores.{signed32, startOf};
-ghost use Rattle.elements.specs.Accesses.{scatterAccess, quadwordAccess, stridedAccess};
+ghost use Rattle.elements.specs.Accesses.{scatterAccess, quadwordAccess, stridedAccess, stridedOf};
 ghost use Rattle.elements.specs.Accesses.{offsetBytes, offsetFrom, addressFrom, vectorAddress, vectorActive};
 ghost use Rattle.elements.specs.Accesses.{borderOf, lowOf, highOf, stridedAddress, stridedActive};
 use encoding::Extension;
@@ -70,7 +70,7 @@ pub fn bit(s: &[u8], i: usize) -> bool
     requires { ⌜ i / 8 < length (now s) ⌝ }
     ensures { λ r. ⌜ r ≡ bitAt (now (s .entry)) i ⌝ }
 {
-    let b = window::wide(s[i / 8]);
+    let b = endian::wide(s[i / 8]);
     (b >> (i % 8)) % 2 == 1
 }
 
@@ -118,9 +118,9 @@ fn offset(extension: Extension, reg: &[u8], at: usize) -> u64
     ensures { λ r. ⌜ r ≡ offsetFrom extension (now (reg .entry)) at ⌝ }
 {
     match extension {
-        Extension::None => window::le64(reg, at),
-        Extension::Uxtw => window::le32(reg, at),
-        Extension::Sxtw => extended(window::le32(reg, at)),
+        Extension::None => endian::le64(reg, at),
+        Extension::Uxtw => endian::le32(reg, at),
+        Extension::Sxtw => extended(endian::le32(reg, at)),
     }
 }
 
@@ -158,7 +158,7 @@ fn counter_of(p: &[u8], vb: usize, pc: u8) -> u64
     requires { ⌜ (pc < 8) × (16 ≤ vb) × (vb ≤ 256) × (length (now p) ≡ 2 * vb) ⌝ }
     ensures { λ r. ⌜ r ≡ counterOf (machine vb [] 0 [] (now (p .entry))) pc ⌝ }
 {
-    window::le16(register_of(p, vb / 8, 8 + pc as usize), 0)
+    endian::le16(register_of(p, vb / 8, 8 + pc as usize), 0)
 }
 
 // The index of a counter's lowest set bit among its low four.
@@ -327,11 +327,7 @@ pub fn range_for(f: StridedFields, vb: usize, p: &[u8]) -> Range
 // A strided store's access, by its first address and its range. The callers find those two, so that this is little and inlined.
 pub fn strided_access(f: StridedFields, start: u64, range: Range, vb: usize) -> StridedAccess
     requires { ⌜ refused (Store.Strided f) ≡ false ⌝ }
-    ensures { λ r.
-        ⌜ ((m : Machine) → m .vb ≡ vb → start ≡ stridedAccess m (classFor (Store.Strided f)) f .start
-        → range .low ≡ stridedAccess m (classFor (Store.Strided f)) f .low
-        → range .high ≡ stridedAccess m (classFor (Store.Strided f)) f .high
-        → r ≡ stridedAccess m (classFor (Store.Strided f)) f) ⌝ }
+    ensures { λ r. ⌜ r ≡ stridedOf (classFor (Store.Strided f)) f vb start (range .low) (range .high) ⌝ }
 {
     let nreg = encoding::number_for(f.class, Number::Nreg);
     let step = encoding::number_for(f.class, Number::Step) as usize;

@@ -11,7 +11,8 @@ ghost use Rattle.gathering.specs.Gathering.{GatheredAs};
 use elements::VectorAccess;
 use encoding::Extension;
 
-// All active elements lie in the window, and the array's first n entries are their keys; or the lowest that doesn't.
+// All active elements lie in the window, and the array's first n entries are their keys; or the lowest that doesn't, with its first
+// address.
 pub enum Gathered {
     Keys { n: usize },
     Outside { element: u64, address: u64 },

@@ -13,9 +13,9 @@ use Rattle.encoding.specs.declared.ScatterFields.{ScatterFields}
 use Rattle.encoding.specs.declared.StridedFields.{StridedFields}
 use Rattle.encoding.specs.declared.QuadwordFields.{QuadwordFields}
 use Rattle.encoding.specs.declared.Store.the-variants.{Scatter, Strided, Quadword}
-use Rattle.window.specs.LittleEndian.{Bytes}
+use Rattle.endian.specs.LittleEndian.{Bytes}
 use Rattle.writes.specs.Elements as W
-use Rattle.window.proofs.Order.{two}
+use Rattle.endian.proofs.Order.{two}
 use Rattle.elements.specs.Machine.{Machine, register}
 use Rattle.elements.specs.Stores.{countOf}
 use Rattle.elements.specs.Accesses.{vectorActive, vectorAddress, vectorElement, stridedActive, stridedAddress, stridedElement}

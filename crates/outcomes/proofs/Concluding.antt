@@ -8,7 +8,7 @@ use lib.Dec.{ltb}
 use lib.ListN.{length, drop}
 use borrow.Author.Tests.{lt-ltb, le-ltb}
 use Rattle.window.specs.Window.{windowOk, inWindow}
-use Rattle.window.proofs.Order.{absurdly}
+use Rattle.endian.proofs.Order.{absurdly}
 use Rattle.window.proofs.Windows.{byte-is}
 use Rattle.writes.specs.Elements.{Element, written, stepsOf}
 use Rattle.elements.specs.Machine.{Machine}

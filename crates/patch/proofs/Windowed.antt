@@ -7,16 +7,16 @@ use native.Mathlib.Omega.{arith}
 use native.Mathlib.Numerals.{add-one}
 use lib.ListN.{length, take, drop, length-drop}
 use lib.Seq.{drop-drop}
-use Rattle.window.specs.LittleEndian.{leVal}
+use Rattle.endian.specs.LittleEndian.{leVal}
 use Rattle.writes.specs.Sets.{Run, run, writesAt, writesOf, payload, Apart, overlay}
 use Rattle.writes.specs.Sizes.{maxBytes}
 use Rattle.writes.proofs.Sizes.{bytes-fit}
-use Rattle.window.specs.Overwriting.{overwritten}
+use Rattle.endian.specs.Overwriting.{overwritten}
 use Rattle.writes.specs.Encoding.{runThen, runsThen}
 use Rattle.window.specs.Window.{inWindow}
-use Rattle.window.proofs.Order.{absurdly}
+use Rattle.endian.proofs.Order.{absurdly}
 use Rattle.writes.proofs.Overlay.{overlay-nil, overlay-run, overlay-runs}
-use Rattle.window.proofs.Parts.{length-over}
+use Rattle.endian.proofs.Parts.{length-over}
 use Rattle.window.proofs.Windows.{in-window, in-window-inv}
 use Rattle.patch.specs.Applying.{lowestOutside}
 use Rattle.patch.specs.Stops.{lastOf}

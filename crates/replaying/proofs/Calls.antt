@@ -7,8 +7,8 @@ use Prim.Native.Nat.{ℕ, _*_, _≤_}
 use native.Mathlib.Omega.{arith}
 use lib.ListN.{length, take, drop, length-append}
 use Rattle.encoding.specs.Decoding.{decodeOf}
-use Rattle.window.specs.LittleEndian.{Bytes}
-use Rattle.window.proofs.Order.{absurdly}
+use Rattle.endian.specs.LittleEndian.{Bytes}
+use Rattle.endian.proofs.Order.{absurdly}
 use Rattle.writes.proofs.Statements.{encoding-length}
 use Rattle.writes.specs.Elements.{stepsOf}
 use Rattle.elements.specs.Machine.{Machine}

@@ -3,10 +3,10 @@ use mathlib.Core.Path.{refl}
 use Rattle.encoding.specs.Classes.{classes, classAt, position, any, everyBelow, inside, belongs, has}
 use Rattle.encoding.specs.Decoding.{multipleOf, storeOf, indexOf, decodeOf}
 use Rattle.encoding.specs.Encoding.{rowOf}
-use Rattle.window.specs.LittleEndian.{leVal, leBytes}
+use Rattle.endian.specs.LittleEndian.{leVal, leBytes}
 use Rattle.writes.specs.Sets.{join, runs, writesAt}
 use Rattle.writes.specs.Elements.{written, below, from, splice, spliceAll, stepsFrom}
-use Rattle.window.specs.Overwriting.{overwritten}
+use Rattle.endian.specs.Overwriting.{overwritten}
 use Rattle.writes.specs.Encoding.{runThen, runsThen, trailer, encodeRuns, encode}
 use Rattle.window.specs.Window.{windowOk, inWindow, outsideFrom}
 use Rattle.elements.specs.Machine.{bitAt}

@@ -10,7 +10,7 @@ use Rattle.encoding.specs.Classes.{classes, classAt, position, any, everyBelow,
 use Rattle.encoding.specs.Decoding.{multipleOf, storeOf, indexOf, decodeOf}
 use Rattle.encoding.specs.Encoding.{rowOf}
 use Rattle.encoding.proofs.Tests.{every}
-use Rattle.window.specs.LittleEndian.{Bytes, leVal, leBytes}
+use Rattle.endian.specs.LittleEndian.{Bytes, leVal, leBytes}
 use Rattle.writes.specs.Sets.{join, runs, writesAt}
 use Rattle.writes.specs.Elements.{below, from, splice, spliceAll, stepsFrom}
 use Rattle.writes.specs.Encoding.{runThen, runsThen, trailer, encodeRuns, encode}

@@ -1,4 +1,5 @@
--- The starred cases of document 01, 'Cases at the edges', in one table: each word is decoded and stored on a whole machine. VB is 16.
+-- The starred cases of document 01, 'Cases at the edges', and document 02 (ii)'s example, in one table: each word is decoded and stored
+-- on a whole machine. VB is 16.
 -- Assumes nothing.
 use Prim.Native.Nat.{ℕ, _+_, _-_, _*_}
 use mathlib.Core.Bool.{true, false}

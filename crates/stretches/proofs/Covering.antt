@@ -9,7 +9,7 @@ use lib.ListN.{length}
 use lib.Dec.{ltb}
 use borrow.Author.Tests.{lt-ltb, le-ltb}
 use Rattle.writes.specs.Sets.{lookup, writesAt}
-use Rattle.window.proofs.Order.{two}
+use Rattle.endian.proofs.Order.{two}
 use Rattle.writes.proofs.Lookup.{lookup-writesAt-below, lookup-writesAt-past, lookup-writesAt-at}
 use Rattle.stretches.specs.Intervals.{Interval, interval}
 

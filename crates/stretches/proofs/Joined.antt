@@ -6,7 +6,7 @@ use mathlib.Core.List.{List, [], _∷_}
 use native.Mathlib.Nat.{suc-mul}
 use native.Mathlib.Omega.{arith}
 use lib.ListN.{length}
-use Rattle.window.proofs.Order.{two, three}
+use Rattle.endian.proofs.Order.{two, three}
 use Rattle.ordering.specs.Keys.{numberOf, filed, sorted, Each, Distinct}
 use Rattle.ordering.proofs.Sorting.{Up, filed-past, filed-here, sorted-each, up-sorted}
 use Rattle.stretches.proofs.Covering.{among, or, hull, or-assoc, or-swap}

@@ -7,7 +7,7 @@ use native.Mathlib.Omega.{arith}
 use lib.Dec.{leb}
 use lib.ListN.{length}
 use borrow.Author.Tests.{le-leb}
-use Rattle.window.proofs.Order.{two}
+use Rattle.endian.proofs.Order.{two}
 use Rattle.ordering.specs.Keys.{entries}
 use Rattle.ordering.proofs.Sorting.{length-entries}
 use Rattle.stretches.specs.Intervals.{total}

@@ -4,7 +4,7 @@ use Prim.Native.Nat.{ℕ, _+_, _-_, _≤_, _<_}
 use mathlib.Core.Bool.{Bool, false}
 use mathlib.Core.List.{List, [], _∷_}
 use native.Mathlib.Omega.{arith}
-use Rattle.window.proofs.Order.{two}
+use Rattle.endian.proofs.Order.{two}
 use Rattle.stretches.specs.Intervals.{Separate}
 use Rattle.stretches.proofs.Covering.{among, or, covered, hull, or-assoc}
 use Rattle.stretches.specs.Stretches.{startOf, endOf, bytesOf, higher, mergedFrom, merged, Rising}

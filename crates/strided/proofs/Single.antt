@@ -6,11 +6,11 @@ use mathlib.Core.Option.{none}
 use Prim.Native.Nat.{ℕ, _+_, _-_, _*_, _^_, _≤_, _<_}
 use native.Mathlib.Omega.{arith}
 use lib.ListN.{length, drop}
-use Rattle.window.specs.LittleEndian.{Bytes}
+use Rattle.endian.specs.LittleEndian.{Bytes}
 use Rattle.writes.specs.Sets.{ByteWrite, run, lookup, writesAt, writesOf}
 use Rattle.writes.specs.Encoding.{encodeRuns, encode}
 use Rattle.writes.specs.Elements.{Element, written, below, from, splice, spliceAll, netEffect, stepsFrom, stepsOf}
-use Rattle.window.specs.Overwriting.{overwritten}
+use Rattle.endian.specs.Overwriting.{overwritten}
 use Rattle.window.specs.Window.{windowOk}
 use Rattle.window.proofs.Windows.{window-inv}
 use Rattle.elements.specs.Accesses.{StridedSound, stridedAddress, stridedElements, stridedBytes}

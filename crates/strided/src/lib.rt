@@ -15,7 +15,7 @@ use elements::StridedAccess;
 use verdicts::Refusal;
 use verdicts::Verdict;
 
-// All active elements lie in the window, or the lowest that doesn't.
+// All active elements lie in the window, or the lowest that doesn't, with its first address.
 pub enum Search {
     Inside,
     Outside { element: u64, address: u64 },

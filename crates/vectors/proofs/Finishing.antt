@@ -7,10 +7,10 @@ use native.Mathlib.Omega.{arith}
 use lib.Dec.{leb}
 use lib.ListN.{length}
 use borrow.Author.Tests.{leb-false}
-use Rattle.window.specs.LittleEndian.{Bytes}
+use Rattle.endian.specs.LittleEndian.{Bytes}
 use Rattle.writes.specs.Encoding.{encodeRuns, encode}
 use Rattle.writes.specs.Elements.{Element, netEffect, written, stepsOf}
-use Rattle.window.specs.Overwriting.{overwritten}
+use Rattle.endian.specs.Overwriting.{overwritten}
 use Rattle.ordering.specs.Keys.{entries, sorted, Each, Distinct}
 use Rattle.ordering.proofs.Sorting.{length-entries}
 use Rattle.stretches.specs.Intervals.{total}

@@ -9,10 +9,10 @@ use native.Mathlib.Omega.{arith}
 use lib.ListN.{length, drop}
 use Rattle.encoding.specs.declared.Extension.{Extension}
 use Rattle.encoding.specs.declared.Extension.the-variants.{None, Uxtw, Sxtw}
-use Rattle.window.specs.LittleEndian.{Bytes}
+use Rattle.endian.specs.LittleEndian.{Bytes}
 use Rattle.writes.specs.Elements.{Element, InWindow}
 use Rattle.window.specs.Window.{windowOk}
-use Rattle.window.proofs.LittleEndian.{bytes-take, bytes-drop}
+use Rattle.endian.proofs.LittleEndian.{bytes-take, bytes-drop}
 use Rattle.window.proofs.Windows.{window-inv}
 use Rattle.elements.specs.Elements.{actives}
 use Rattle.elements.specs.Accesses.{offsetBytes, vectorActive, vectorElement, vectorElements, VectorSound}

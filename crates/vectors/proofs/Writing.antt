@@ -5,8 +5,8 @@ use mathlib.Core.List.{List, [], _∷_}
 use native.Mathlib.Omega.{arith}
 use lib.ListN.{length, getD}
 use Rattle.writes.specs.Elements.{Element, written}
-use Rattle.window.specs.Overwriting.{overwritten}
-use Rattle.window.proofs.Parts.{length-over}
+use Rattle.endian.specs.Overwriting.{overwritten}
+use Rattle.endian.proofs.Parts.{length-over}
 use Rattle.ordering.specs.Keys.{numberOf, entries, Each}
 use Rattle.ordering.proofs.Sorting.{entries-cons, entries-none, entries-all}
 use Rattle.stretches.specs.Stretches.{startOf, Seen, keyOf, keysOf}

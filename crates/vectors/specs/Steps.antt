@@ -5,7 +5,7 @@ use mathlib.Core.Option.{none}
 use mathlib.Core.Path.{_≡_}
 use lib.ListN.{length}
 use Rattle.writes.specs.Elements.{Element}
-use Rattle.window.specs.Overwriting.{overwritten}
+use Rattle.endian.specs.Overwriting.{overwritten}
 use Rattle.ordering.specs.Keys.{numberOf, entries}
 use Rattle.stretches.specs.Stretches.{startOf, Seen, keysOf}
 use Rattle.cutting.specs.Cutting.{part, Fits}

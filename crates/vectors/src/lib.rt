@@ -48,7 +48,7 @@ fn write_keys(
         let to = at + size;
         let from = number_of(k) * step;
         let end = from + size;
-        window::copy(&mut memory[at..to], &stored[from..end]);
+        endian::copy(&mut memory[at..to], &stored[from..end]);
         elements += 1;
         bytes += size as u64;
         t += 1;

@@ -6,7 +6,7 @@ use mathlib.Core.Logic.{_↔_, inl, inr}
 use Prim.Native.Nat.{ℕ}
 use lib.Dec.{eqb}
 use borrow.Author.Tests.{eqb-true, eqb-false, eq-eqb}
-use Rattle.window.proofs.Order.{absurdly, both}
+use Rattle.endian.proofs.Order.{absurdly, both}
 use Rattle.verdicts.specs.Verdicts.{Row, decided, number}
 use Rattle.verdicts.specs.Statements.{Given, NoneGiven, Decides, before, Numbered}
 use Rattle.verdicts.specs.declared.Verdict.{Verdict}

@@ -15,7 +15,7 @@ use Rattle.encoding.specs.declared.Store.the-variants.{Scatter, Strided, Quadwo
 use Rattle.encoding.proofs.Statements.{one-of}
 use Rattle.writes.specs.Elements.{Element, InWindow}
 use Rattle.window.specs.Window.{windowOk, inWindow}
-use Rattle.window.proofs.Order.{two, absurdly, not-both, both, told}
+use Rattle.endian.proofs.Order.{two, absurdly, not-both, both, told}
 use Rattle.window.proofs.Windows.{window-true, window-false, in-window-inv}
 use Rattle.elements.specs.Machine.{Machine}
 use Rattle.elements.specs.Elements.{elements}

@@ -18,6 +18,7 @@ pub enum Refusal {
     Undefined,
     Illegal,
     Stack,
+    // The lowest active element with a byte outside the window, and the address, modulo 2^64, of the first of its bytes that isn't in it.
     Fault { element: u64, address: u64 },
     NoRoom,
 }

@@ -1,6 +1,1 @@
-pub mod Order
-pub mod Parts
-pub mod LittleEndian
-pub mod Putting
-pub mod Copying
 pub mod Windows

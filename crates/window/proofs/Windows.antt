@@ -6,7 +6,7 @@ use mathlib.Core.Bool.{Bool, true, false, not, cond, _&&_}
 use lib.Dec.{leb}
 use borrow.Author.Tests.{le-leb, leb-true, leb-false}
 use Rattle.window.specs.Window.{windowOk, inWindow, offsetIn, outsideFrom, byteOutside}
-use Rattle.window.proofs.Order.{two, three, not-both, both}
+use Rattle.endian.proofs.Order.{two, three, not-both, both}
 
 -- two comparisons that both hold, and that don't
 within : (a b c d : ℕ) → a ≤ b → c ≤ d → (leb a b && leb c d) ≡ true

@@ -1,4 +1,2 @@
--- ---- what the customer must believe of bytes and of the window, from document 01
-pub mod LittleEndian
-pub mod Overwriting
+-- ---- what the customer must believe of the window, from documents 01 and 02
 pub mod Window

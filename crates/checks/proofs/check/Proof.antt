@@ -4,7 +4,7 @@ use native.Mathlib.Omega.{arith}
 use borrow.Author.Needs.{needs}
 use borrow.Author.Tests.{not-false}
 use Rattle.encoding.proofs.Statements.{known-accepted}
-use Rattle.window.proofs.LittleEndian.{bytes-at}
+use Rattle.endian.proofs.LittleEndian.{bytes-at}
 use Rattle.elements.specs.Machine.{Machine, machine}
 use Rattle.checks.specs.Checking.{Sound, CheckedAs}
 use Rattle.verdicts.specs.declared.Refusal.the-variants.{Length, Registers, Window}

@@ -4,7 +4,7 @@ use mathlib.Core.Path.{sym, _∙_}
 use Prim.Native.Nat.{ℕ, _+_, _-_, _*_, _≤_}
 use native.Mathlib.Omega.{arith}
 use lib.ListN.{length, length-take, length-drop}
-use Rattle.window.proofs.Parts.{length-part, part-is, part-over}
+use Rattle.endian.proofs.Parts.{length-part, part-is, part-over}
 use Rattle.copying.proofs.Copying.{EachCopied, each-first, each-room, each-here, each-small, each-next, each-done}
 use Rattle.copying.proofs.copy_each.Statement.{statement}
 use Rattle.copying.proofs.copy_each.Tie as tie

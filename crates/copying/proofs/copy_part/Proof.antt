@@ -4,7 +4,7 @@ use mathlib.Core.Path.{_≡_, sym, ap, _∙_}
 use Prim.Native.Nat.{ℕ, _+_, _-_, _*_, _≤_}
 use native.Mathlib.Omega.{arith}
 use lib.ListN.{length, take, drop}
-use Rattle.window.proofs.Parts.{part-is, part-length, part-over}
+use Rattle.endian.proofs.Parts.{part-is, part-length, part-over}
 use Rattle.elements.specs.Accesses.{stridedElement, bytesFrom}
 use Rattle.accesses.proofs.Sizes.{high-small, size-small, all-small, row-long}
 use Rattle.copying.specs.Parts.{PartOf}

@@ -6,7 +6,7 @@ use native.Mathlib.Omega.{arith}
 use lib.ListN.{length}
 use borrow.Author.Needs.{needs}
 use Rattle.writes.specs.Encoding.{trailer}
-use Rattle.window.specs.Overwriting.{overwritten}
+use Rattle.endian.specs.Overwriting.{overwritten}
 use Rattle.cutting.specs.Cutting.{runBytes, spaced}
 use Rattle.cutting.proofs.Composing.{Composing, composing-first, composing-room, composing-next, composing-left, composing-done}
 use Rattle.cutting.proofs.Spacing.{spaced-next, spaced-none, spaced-all}

@@ -3,7 +3,7 @@ use mathlib.Core.Path.{refl, sym, ap, _∙_}
 use Prim.Native.Nat.{ℕ, _<_}
 use native.Mathlib.Omega.{arith}
 use borrow.Author.Needs.{needs}
-use Rattle.window.specs.Overwriting.{overwritten}
+use Rattle.endian.specs.Overwriting.{overwritten}
 use Rattle.cutting.specs.Cutting.{part}
 use Rattle.cutting.proofs.Copying.{moved-ends, moved-one, between, copied-part}
 use Rattle.cutting.proofs.copy_at.Statement.{statement}

@@ -1,5 +1,5 @@
 -- `move8`: eight bytes read as a number and put. Assumes nothing.
-use Rattle.window.proofs.LittleEndian.{bytes-at}
+use Rattle.endian.proofs.LittleEndian.{bytes-at}
 use Rattle.cutting.proofs.Copying.{moved}
 use borrow.Author.Needs.{needs}
 use Rattle.cutting.proofs.move8.Statement.{statement}

@@ -1,7 +1,7 @@
 -- `put_mark`: its two bytes. Assumes nothing.
 use native.Mathlib.Omega.{arith}
 use lib.ListN.{length-set}
-use Rattle.window.proofs.Putting.{two-put}
+use Rattle.endian.proofs.Putting.{two-put}
 use borrow.Author.Needs.{needs}
 use Rattle.cutting.proofs.put_mark.Statement.{statement}
 use Rattle.cutting.proofs.put_mark.Tie as tie

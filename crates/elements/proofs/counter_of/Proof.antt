@@ -4,7 +4,7 @@ use mathlib.Core.Path.{ap, _∙_}
 use Prim.Native.Nat.{ℕ, _+_, _*_, _/_, _≤_, _<_}
 use native.Mathlib.Omega.{arith}
 use lib.ListN.{length, take}
-use Rattle.window.specs.LittleEndian.{leVal}
+use Rattle.endian.specs.LittleEndian.{leVal}
 use Rattle.elements.proofs.Numbers.{register-within, register-long}
 use borrow.Author.Needs.{needs}
 use Rattle.elements.proofs.counter_of.Statement.{statement}

@@ -1,5 +1,5 @@
 -- `strided_access`: the class's numbers and the store's fields. No loop. Assumes nothing.
-use mathlib.Core.Path.{_≡_, sym, ap, _∙_}
+use mathlib.Core.Path.{_≡_, ap, _∙_}
 use Prim.Native.Nat.{ℕ, _/_}
 use mathlib.Core.Bool.{cond}
 use lib.Dec.{eqb}
@@ -9,16 +9,12 @@ use Rattle.encoding.specs.declared.Number.{Number}
 use Rattle.encoding.specs.declared.Number.the-variants.{Nreg, Step, Size}
 use Rattle.encoding.specs.declared.Store.the-variants.{Strided}
 use Rattle.encoding.proofs.Statements.{listed}
-use Rattle.elements.specs.Accesses.{stridedAccess}
+use Rattle.elements.specs.Accesses.{stridedOf}
 use Rattle.elements.specs.declared.StridedAccess.{StridedAccess}
-use Rattle.elements.proofs.Shapes.{StridedIn, strided-in}
-use Rattle.elements.proofs.Numbers.{number-is, pers}
+use Rattle.elements.proofs.Numbers.{number-is}
 use borrow.Author.Needs.{needs}
 use Rattle.elements.proofs.strided_access.Statement.{statement}
 use Rattle.elements.proofs.strided_access.Tie as tie
-
-fields : (a : tie.Start) → StridedIn (a .args .f) (classFor (Strided (a .args .f)))
-fields a = strided-in (a .args .f) (a .pre)
 
 -- a number of the store's class
 number : (a : tie.Start) (x : Number) (n : ℕ) → n ≡ numberIn (classNumbered (a .args .f .class)) x
@@ -50,7 +46,7 @@ cast-t13 : tie.Need-cast-t13
 cast-t13 c = search needs
 
 returns : tie.Need-returns
-returns c m v qs ql qh =
+returns c =
     let d = c .before in
     let n = d .before in
     let t = n .before in
@@ -58,17 +54,17 @@ returns c m v qs ql qh =
     let a = g .before in
     let f = a .args .f in
     let registers = number a Nreg (g .number-for .result) (g .number-for .ensures) in
-    let per = ap (λ (y : ℕ). y / 8) (sym v) ∙ pers (m .vb) (classFor (Strided f)) (fields a .eight) 8 (sym (fields a .step)) in
     let stride = d .stride-of .ensures ∙ ap (λ (y : ℕ). cond (eqb y 2) 8 4) registers in
-    let e : _≡_ {A = StridedAccess} _ (stridedAccess m (classFor (Strided f)) f) =
+    let e : _≡_ {A = StridedAccess} _
+    (stridedOf (classFor (Strided f)) f (a .args .vb) (a .args .«start») (a .args .range .low) (a .args .range .high)) =
     λ i.
     record {
-      start = qs i;
-      low = ql i;
-      high = qh i;
+      start = a .args .«start»;
+      low = a .args .range .low;
+      high = a .args .range .high;
       step = number a Step (t .number-for2 .result) (t .number-for2 .ensures) i;
       size = number a Size (n .number-for3 .result) (n .number-for3 .ensures) i;
-      per = per i;
+      per = a .args .vb / 8;
       nreg = registers i;
       first = f .first;
       stride = stride i;

@@ -6,11 +6,12 @@ use lib.ListN.{length}
 use Rattle.encoding.specs.Encoding.{classFor, refused}
 use Rattle.encoding.specs.declared.Store.{Store}
 use Rattle.encoding.specs.declared.Store.the-variants.{Scatter, Strided, Quadword}
-use Rattle.window.proofs.LittleEndian.{bytes-at}
+use Rattle.endian.proofs.LittleEndian.{bytes-at}
 use Rattle.elements.specs.Machine.{Machine, machine}
 use Rattle.elements.specs.Accesses.{stridedAccess, VectorSound, StridedSound}
 use Rattle.elements.specs.declared.VectorAccess.{VectorAccess}
 use Rattle.elements.specs.declared.StridedAccess.{StridedAccess}
+use Rattle.elements.proofs.Numbers.{strided-whole}
 use Rattle.elements.proofs.Shapes.{scatter-in, quadword-in, strided-in}
 use Rattle.accesses.proofs.Soundness.{scatter-sound, quadword-sound, strided-sound}
 use Rattle.inspection.specs.Inspection.{inspectedAt}
@@ -88,7 +89,11 @@ accessed : (c : tie.After-strided-access)
     c .strided-access .result ≡ stridedAccess (m (strided t)) (classFor (Strided f)) f
 accessed c =
     let r = c .before in
-    c .strided-access .ensures (m (strided (r .before .before .before))) refl
+    let t = r .before .before .before in
+    let f = t .store2 .given .0 .0 in
+    let s = strided-in f (ok (strided t) _ (t .store2 .given .1)) in
+    c .strided-access .ensures
+    ∙ strided-whole (m (strided t)) f (s .step) (s .eight) _ _ _ _ refl
     (r .before .start-of .ensures) (r .range-for .ensures .0) (r .range-for .ensures .1)
 
 inspect-strided-requires : tie.Need-inspect-strided-requires

@@ -4,7 +4,7 @@ use Prim.Native.Nat.{ℕ, _-_, _<_}
 use native.Mathlib.Omega.{arith}
 use lib.ListN.{length, getD}
 use lib.Seq.{ext-getD}
-use Rattle.window.proofs.Order.{three, absurdly}
+use Rattle.endian.proofs.Order.{three, absurdly}
 use Rattle.replaying.proofs.equal.Statement.{statement}
 use Rattle.replaying.proofs.equal.Tie as tie
 

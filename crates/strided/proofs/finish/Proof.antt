@@ -5,10 +5,10 @@ use native.Mathlib.Nat.{mul-pos}
 use native.Mathlib.Omega.{arith}
 use lib.ListN.{length}
 use borrow.Author.Needs.{needs}
-use Rattle.window.specs.LittleEndian.{Bytes}
-use Rattle.window.proofs.LittleEndian.{bytes-at}
+use Rattle.endian.specs.LittleEndian.{Bytes}
+use Rattle.endian.proofs.LittleEndian.{bytes-at}
 use Rattle.window.proofs.Windows.{window-inv}
-use Rattle.window.proofs.Parts.{part-length, part-over}
+use Rattle.endian.proofs.Parts.{part-length, part-over}
 use Rattle.elements.specs.Accesses.{stridedBytes}
 use Rattle.accesses.proofs.Sizes.{all-small, active-long}
 use Rattle.stretches.specs.Intervals.{total}

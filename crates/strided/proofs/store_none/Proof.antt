@@ -1,8 +1,8 @@
 -- `store_none`: an empty patch, where there is room for it. Assumes nothing.
 use native.Mathlib.Omega.{arith}
 use borrow.Author.Needs.{needs}
-use Rattle.window.specs.LittleEndian.{Bytes}
-use Rattle.window.proofs.LittleEndian.{bytes-at}
+use Rattle.endian.specs.LittleEndian.{Bytes}
+use Rattle.endian.proofs.LittleEndian.{bytes-at}
 use Rattle.window.proofs.Windows.{window-inv}
 use Rattle.stretches.specs.Intervals.{total}
 use Rattle.cutting.specs.Cutting.{spaced}

@@ -7,8 +7,8 @@ use native.Mathlib.Omega.{arith}
 use lib.ListN.{length}
 use borrow.Author.Needs.{needs}
 use borrow.Author.Tests.{not-true, not-false, leb-true}
-use Rattle.window.specs.LittleEndian.{Bytes}
-use Rattle.window.proofs.LittleEndian.{bytes-at}
+use Rattle.endian.specs.LittleEndian.{Bytes}
+use Rattle.endian.proofs.LittleEndian.{bytes-at}
 use Rattle.ordering.specs.Keys.{entries}
 use Rattle.stretches.specs.Intervals.{total}
 use Rattle.stretches.specs.Stretches.{merged, Ordered}

@@ -6,10 +6,10 @@ use Prim.Native.Nat.{ℕ, _+_, _*_, _/_, _%_, _^_}
 use native.Mathlib.Omega.{arith}
 use lib.ListN.{length, drop}
 use borrow.Author.Needs.{needs}
-use Rattle.window.specs.LittleEndian.{Bytes}
+use Rattle.endian.specs.LittleEndian.{Bytes}
 use Rattle.window.specs.Window.{inWindow}
 use Rattle.writes.specs.Elements.{Element}
-use Rattle.window.proofs.LittleEndian.{bytes-at, bytes-take, bytes-drop}
+use Rattle.endian.proofs.LittleEndian.{bytes-at, bytes-take, bytes-drop}
 use Rattle.elements.specs.Accesses.{VectorSound, vectorElements}
 use Rattle.checks.specs.Checking.{vectorsIn}
 use Rattle.checks.proofs.Spans.{z-room, z-long, p-room, p-long}

@@ -6,6 +6,8 @@ use Rattle.encoding.specs.declared.Store.the-variants as S
 use Rattle.elements.specs.Machine.{machine}
 use Rattle.checks.specs.Checking.{accessFor}
 use Rattle.checks.specs.declared.Checked.the-variants.{Vector, Strided}
+use Rattle.elements.proofs.Shapes.{strided-in}
+use Rattle.elements.proofs.Numbers.{strided-whole}
 use borrow.Author.Needs.{needs}
 use Rattle.checks.proofs.stores.access_for.Statement.{statement}
 use Rattle.checks.proofs.stores.access_for.Tie as tie
@@ -54,7 +56,11 @@ returns-2 c =
     let g = t .before .before .before .args in
     λ z.
     let m = machine (g .vb) (g .x .now) (g .sp) z (g .p .now) in
-    ap Strided (c .strided-access .ensures m refl (b .start-of .ensures) (r .range-for .ensures .0) (r .range-for .ensures .1))
+    let f = t .store2 .given .0 .0 in
+    let s = strided-in f (accepted t) in
+    ap Strided
+    (c .strided-access .ensures
+    ∙ strided-whole m f (s .step) (s .eight) _ _ _ _ refl (b .start-of .ensures) (r .range-for .ensures .0) (r .range-for .ensures .1))
     ∙ sym (ap (accessFor m) (t .store2 .given .1))
 
 returns-3 : tie.Need-returns-3

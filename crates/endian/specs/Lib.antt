@@ -1,0 +1,3 @@
+-- ---- what the customer must believe of bytes, from document 01
+pub mod LittleEndian
+pub mod Overwriting
