@@ -19,11 +19,11 @@ use Rattle.writes.proofs.Overlay.{overlay-nil, overlay-run, overlay-runs}
 use Rattle.endian.proofs.Parts.{length-over}
 use Rattle.window.proofs.Windows.{in-window, in-window-inv}
 use Rattle.patch.specs.Applying.{lowestOutside}
-use Rattle.patch.specs.Stops.{lastOf}
+use Rattle.reading.specs.Stops.{lastOf}
 use Rattle.patch.specs.Placing.{runsRead, setOf, surveyed, RunsOf, RunsTo, AllInside}
 use Rattle.patch.specs.declared.placing.Survey.{Survey}
 use Rattle.patch.specs.declared.placing.Survey.the-variants.{Inside, Beyond}
-use Rattle.patch.proofs.Steps.{RunAt, run-of, payload-at, after-at}
+use Rattle.reading.proofs.Steps.{RunAt, run-of, payload-at, after-at}
 
 -- ---- the runs that are left, k of n behind
 

@@ -1,39 +1,12 @@
--- Where reading ends and what was read up to there, in numbers: what `walk`, `read` and `whole` answer. Assumes nothing.
-use Prim.Native.Nat.{ℕ, _+_, _-_}
-use mathlib.Core.Bool.{Bool, true, false}
-use mathlib.Core.List.{List, [], _∷_}
-use lib.ListN.{length}
+-- Where reading ends in a whole string, in numbers: what `whole` answers. Assumes nothing.
+use Prim.Native.Nat.{ℕ, _-_}
+use mathlib.Core.Bool.{false}
 use lib.Dec.{eqb}
-use Rattle.writes.specs.Sets.{Run, run, payload}
-use Rattle.patch.specs.Reader.{Found, whole, broken}
-use Rattle.patch.specs.declared.reader.Stop.{Stop}
-use Rattle.patch.specs.declared.reader.Reading.{Reading}
-use Rattle.patch.specs.declared.reader.Reading.the-variants.{Whole, Broken}
-
-abbrev pub runsIn : Found → List Run
-runsIn (whole rs e) = rs
-runsIn (broken rs a) = rs
-
--- the last address that runs write, behind one that was written before
-unfoldable pub lastOf : ℕ → List Run → ℕ
-lastOf l [] = l
-lastOf l (run s p ∷ rs) = lastOf (s + (length p - 1)) rs
-
--- behind runs, at an index, and whether a trailer stands there
-abbrev pub behind : Bool → List Run → ℕ → Stop
-behind b rs a = record { ended = b; runs = length rs; last = lastOf 0 rs; bytes = payload rs; at = a }
-
--- where all steps end: the trailer has four bytes
-unfoldable pub stopOf : Found → Stop
-stopOf (whole rs e) = behind true rs (e - 4)
-stopOf (broken rs a) = behind false rs a
+use Rattle.reading.specs.Reader.{Found, whole, broken}
+use Rattle.reading.specs.Stops.{behind}
+use Rattle.reading.specs.declared.Stop.{Stop}
 
 -- where they end in a string of n bytes: "Nothing follows."
 unfoldable pub wholeStop : ℕ → Found → Stop
 wholeStop n (whole rs e) = behind (eqb e n) rs (e - 4)
 wholeStop n (broken rs a) = behind false rs a
-
--- what is read: a patch, its trailer's index and where it ends; or how many runs were taken, and where they end
-unfoldable pub reading : Found → Reading
-reading (whole rs e) = Whole (e - 4) e (length rs) (payload rs)
-reading (broken rs a) = Broken (length rs) a

@@ -1,0 +1,3 @@
+-- ---- what the customer must believe of reading a patch, from document 01
+pub mod Reader
+pub mod Stops
