@@ -180,8 +180,8 @@ pub fn encode_given(fields: &[u64; 8]) -> Encoded
         return Encoded::Fields;
     }
     match feature {
-        Feature::SVE => encoding::encode(Store::Scatter(scatter_given(fields))),
-        Feature::SME2 => encoding::encode(Store::Strided(strided_given(fields))),
-        Feature::SVE2p1 => encoding::encode(Store::Quadword(quadword_given(fields))),
+        Feature::SVE => encoder::encode(Store::Scatter(scatter_given(fields))),
+        Feature::SME2 => encoder::encode(Store::Strided(strided_given(fields))),
+        Feature::SVE2p1 => encoder::encode(Store::Quadword(quadword_given(fields))),
     }
 }

@@ -6,7 +6,6 @@ pub mod Rows
 pub mod Signed
 pub mod Reading
 pub mod Causes
-pub mod Fitting
 pub mod Inverse
 pub mod Statements
 pub mod Numbers

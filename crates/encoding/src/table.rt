@@ -10,7 +10,7 @@ use super::Feature;
 use super::Layout;
 use super::Number;
 
-pub(crate) const CLASSES: usize = 12;
+pub const CLASSES: usize = 12;
 
 // The fixed bits of each class, and what they are: a mask and the base word.
 const ROWS: [[u32; 2]; CLASSES] = [
@@ -61,7 +61,7 @@ pub(crate) fn index_of(word: u32) -> usize
     CLASSES
 }
 
-pub(crate) fn base_of(k: usize) -> u32
+pub fn base_of(k: usize) -> u32
     requires { ⌜ k < length classes ⌝ }
     ensures is { λ r. ⌜ r ≡ classAt k .base ⌝ }
     ensures bounded { λ r. ⌜ r ≤ 0xF0000000 ⌝ }
@@ -124,7 +124,7 @@ pub(crate) fn feature_at(k: usize) -> Feature
     feature_from(digit(packed(k), 10))
 }
 
-pub(crate) fn layout_of(k: usize) -> Layout
+pub fn layout_of(k: usize) -> Layout
     requires { ⌜ k < length classes ⌝ }
     ensures is { λ r. ⌜ r ≡ layoutOf (classAt k) ⌝ }
     ensures bounded { λ r. ⌜ Bounded r ⌝ }
@@ -176,7 +176,7 @@ fn flag_of(feature: Feature) -> u32
 }
 
 // The row of the class with this number, if it needs this feature; CLASSES where there is none.
-pub(crate) fn row_of(class: u8, feature: Feature) -> usize
+pub fn row_of(class: u8, feature: Feature) -> usize
     ensures { λ r. ⌜ r ≡ rowOf class feature ⌝ }
 {
     let k = row_numbered(class);

@@ -9,12 +9,12 @@ use lib.IntN.{ℤ}
 use mir.Syntax.{w64}
 use mir.Val.{toZ, ofZ}
 use mir.Facts.{toZ-ofZ}
 use Rattle.encoding.specs.Decoding.{multipleOf}
 use Rattle.encoding.specs.Encoding.{eqℤ, immOf}
 use Rattle.encoding.proofs.Search.{lowest-at, lowest-none}
 use Rattle.encoding.proofs.Signed.{eqℤ-refl, eqℤ→eq, same-bits}
-use Rattle.encoding.proofs.imm4_of.Statement.{statement}
-use Rattle.encoding.proofs.imm4_of.Tie as tie
+use Rattle.encoder.proofs.imm4_of.Statement.{statement}
+use Rattle.encoder.proofs.imm4_of.Tie as tie
 
 abbrev Inv-loop : tie.InvT-loop
 Inv-loop nreg n z v₀ v = (v ≤ n) × ((k : ℕ) → k < v → T (eqℤ (multipleOf nreg k) (toZ w64 z)) → ⊥)

@@ -2,11 +2,11 @@
 use mathlib.Core.Path.{sym, ap, _∙_}
 use mathlib.Core.Bool.{not}
 use borrow.Author.Needs.{needs}
 use Rattle.encoding.specs.declared.Extension.{Extension}
 use Rattle.encoding.specs.Encoding.{misextends}
 use Rattle.encoding.proofs.Reading.{extends-none, extends-uxtw, extends-sxtw}
-use Rattle.encoding.proofs.extends.Statement.{statement}
-use Rattle.encoding.proofs.extends.Tie as tie
+use Rattle.encoder.proofs.extends.Statement.{statement}
+use Rattle.encoder.proofs.extends.Tie as tie
 
 enum-told : tie.Need-enum-told
 enum-told c = search needs

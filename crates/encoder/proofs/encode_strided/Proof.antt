@@ -1,19 +1,19 @@
 -- `encode_strided`: the tests of its fields, of its first register and of its multiple, and their sum. Assumes nothing.
 use mathlib.Core.Path.{_∙_, ap}
 use Rattle.encoding.specs.declared.Store.the-variants.{Strided}
 use Rattle.encoding.specs.Classes.{classes, classAt}
 use Rattle.encoding.specs.declared.Feature.the-variants.{SME2}
 use Rattle.encoding.proofs.Rows.{found-feature}
 use Rattle.encoding.proofs.Causes.{encode-out, encode-yes, encode-no}
-use Rattle.encoding.proofs.Fitting.{strided-fit, strided-word}
+use Rattle.encoder.proofs.Fitting.{strided-fit, strided-word}
 use native.Mathlib.Omega.{arith}
 use mir.Syntax.{w64}
 use mir.Val.{SFits}
 use mir.Facts.{toZ-ofZ}
 use Rattle.encoding.specs.Encoding.{immOf}
 use borrow.Author.Needs.{needs}
-use Rattle.encoding.proofs.encode_strided.Statement.{statement}
-use Rattle.encoding.proofs.encode_strided.Tie as tie
+use Rattle.encoder.proofs.encode_strided.Statement.{statement}
+use Rattle.encoder.proofs.encode_strided.Tie as tie
 
 whole : (a : tie.Start) → SFits w64 (a .args .f .multiple)
 whole a = record { sfits = omega arith }

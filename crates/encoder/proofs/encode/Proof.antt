@@ -1,9 +1,9 @@
 -- `encode`: by the store's case. Assumes nothing.
 use mathlib.Core.Path.{_∙_, ap, sym}
 use Rattle.encoding.specs.Encoding.{encodeOf}
 use borrow.Author.Needs.{needs}
-use Rattle.encoding.proofs.encode.Statement.{statement}
-use Rattle.encoding.proofs.encode.Tie as tie
+use Rattle.encoder.proofs.encode.Statement.{statement}
+use Rattle.encoder.proofs.encode.Tie as tie
 
 enum-known-store : tie.Need-enum-known-store
 enum-known-store c = search needs
