@@ -141,7 +141,8 @@ uint64_t starshackle_encode(const uint64_t fields[8], uint64_t answer[5]);
  *   sp      SP: register 31 as a base. Register 31 as Rm is zero.
  *   z       the Z registers: register r from byte r * vb on, little-endian
  *   z_len   how many bytes they are: 32 * vb, or the verdict is 2
- *   p       the P registers: register g from byte g * vb / 8 on, bit i of it bit i % 8 of its byte i / 8
+ *   p       the P registers: register g from byte g * vb / 8 on, bit i of it bit i % 8 of its byte i / 8. In classes 8..11 the low 16
+ *           bits of register 8 + Pc are a counter; see below
  *   p_len   how many bytes they are: 2 * vb, or the verdict is 2
  *   base    the window's address: that of memory[0]
  *   memory  the window's bytes
@@ -163,6 +164,12 @@ uint64_t starshackle_encode(const uint64_t fields[8], uint64_t answer[5]);
  *          Elements are numbered from 0, a strided store's through all its registers.
  * NO_ROOM  zeros: the patch has more than patch_len bytes.
  * LENGTH, REGISTERS, WINDOW, UNDEFINED, ILLEGAL, STACK  zeros.
+ *
+ * A counter's element size is 8, 16, 32 or 64 bits, as its lowest set bit is bit 0, 1, 2 or 3; where none of these is set nothing is
+ * active, whatever the others are. Its count is the number above that bit, up to bit log2(4 * vb): bit 6 for vb 16, 7 for 32, 8 for
+ * 64, 9 for 128, 10 for 256. The bits above it up to 14 are ignored. A doubleword of the store, counted through all its registers, is
+ * active if it starts in one of the first `count` elements of that size, or, where bit 15 is set, if it doesn't. So 0418h is 0018h for
+ * vb 16: doubleword 0 is active and no other.
  *
  * Verdict, answer and patch don't depend on what the window holds, and applying the patch to any content of it leaves what the store
  * leaves there. A caller who wants only the patch lends a scratch window: memory_len bytes of any content. One who wants only the

@@ -404,6 +404,71 @@ static void strided(void)
     STORES(store(word, MOST_PATCH), STARSHACKLE_DONE, 0, 0, 0, 0, 4, 0);
 }
 
+/* The elements of two registers at VB 16 that are active under a counter, as bits; and the store's own count of them. */
+static void active_are(int line, unsigned counter, unsigned wanted)
+{
+    const uint32_t word = 0xA1606000; /* st1d { z0.d, z8.d }, pn8, [x0] */
+    unsigned active = 0;
+    uint64_t e;
+    machine(16, STARSHACKLE_FLAG_SME2 | STARSHACKLE_FLAG_STREAMING, 0, 32);
+    set_counter(8, counter);
+    for (e = 0; e < 4; e++) {
+        check(line, element(word, e) == STARSHACKLE_DONE, "it has elements");
+        active |= (unsigned)answer[0] << e;
+    }
+    check(line, active == wanted, "active elements");
+    check(line, store(word, MOST_PATCH) == STARSHACKLE_DONE, "it is done");
+    check(line, answer[2] == (active & 1) + (active >> 1 & 1) + (active >> 2 & 1) + (active >> 3), "how many are active");
+    memset(answer, 0x5A, sizeof answer);
+}
+
+#define ACTIVE_ARE(counter, wanted) active_are(__LINE__, counter, wanted)
+
+/* How many elements of a store are active, with its registers after one another at `base`. */
+static uint64_t how_many(size_t vb, uint32_t word, unsigned counter)
+{
+    uint64_t active;
+    machine(vb, STARSHACKLE_FLAG_SME2 | STARSHACKLE_FLAG_STREAMING, 0, 1024);
+    set_counter(8, counter);
+    CHECK(store(word, MOST_PATCH) == STARSHACKLE_DONE);
+    active = answer[2];
+    memset(answer, 0x5A, sizeof answer);
+    return active;
+}
+
+static void counters(void)
+{
+    static const size_t lengths[5] = {16, 32, 64, 128, 256};
+    const uint32_t two = 0xA1606000, four = 0xA160E000;
+    unsigned i, bit;
+    /* document 01's */
+    ACTIVE_ARE(0x0018, 1);
+    ACTIVE_ARE(0x8038, 8);
+    ACTIVE_ARE(0x8000, 0);
+    ACTIVE_ARE(0x0013, 3);
+    ACTIVE_ARE(0x8008, 15);
+    ACTIVE_ARE(0x8058, 0);
+    /* document 02 (iii): "0418h over two doubleword registers makes element 0 active and no other" */
+    ACTIVE_ARE(0x0418, 1);
+    ACTIVE_ARE(0x8418, 14);
+    ACTIVE_ARE(0x7F98, 1);
+    ACTIVE_ARE(0x7F80, 0);
+    for (bit = 7; bit < 15; bit++)
+        ACTIVE_ARE(0x0018 | 1u << bit, 1);
+    /* its highest bit is log2(4 * vb): with it alone the count is two registers, and the bits above it are ignored */
+    for (i = 0; i < 5; i++) {
+        const unsigned highest = 1u << (6 + i);
+        CHECK(how_many(lengths[i], two, highest | 8) == lengths[i] / 4);
+        CHECK(how_many(lengths[i], four, highest | 8) == lengths[i] / 4);
+        CHECK(how_many(lengths[i], four, highest | 0x8008) == lengths[i] / 4);
+        for (bit = 7 + i; bit < 15; bit++) {
+            CHECK(how_many(lengths[i], four, 1u << bit | 0x0018) == 1);
+            CHECK(how_many(lengths[i], four, 1u << bit | highest | 1) == lengths[i] / 4);
+            CHECK(how_many(lengths[i], two, 1u << bit | 0x8018) == lengths[i] / 4 - 1);
+        }
+    }
+}
+
 static void quadword(void)
 {
     const uint32_t word = 0xE4232041; /* st1q { z1.q }, p0, [z2.d, x3] */
@@ -860,6 +925,7 @@ int main(void)
     fillings();
     rooms();
     strided();
+    counters();
     quadword();
     largest();
     steps();

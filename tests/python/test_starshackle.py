@@ -93,6 +93,44 @@ class Example(unittest.TestCase):
             self.assertEqual(element(machine, SCATTER, e), Element(Verdict.DONE, False, 0, 0, 0, 4))
 
 
+class Counters(unittest.TestCase):
+    """Which elements of a strided store are active."""
+
+    def active(self, vb, counter, word=0xA1606000):
+        """The active elements of a store of doublewords from Z0 and Z8; the store moves as many."""
+        machine = Machine(vb=vb, flags=Flags.SME2 | Flags.STREAMING)
+        struct.pack_into("<H", machine.p, vb, counter)
+        count = element(machine, word, 0).elements
+        active = [e for e in range(count) if element(machine, word, e).active]
+        stored = store(machine, 0, bytearray(1024), word, bytearray(LARGEST_STORE_PATCH))
+        self.assertEqual((stored.verdict, stored.elements), (Verdict.DONE, len(active)))
+        return active
+
+    def test_document_01(self):
+        for counter, active in [(0x0018, [0]), (0x8038, [3]), (0x8000, []), (0x0013, [0, 1]), (0x8008, [0, 1, 2, 3]), (0x8058, [])]:
+            self.assertEqual(self.active(16, counter), active, hex(counter))
+
+    def test_short_vectors(self):
+        """Document 02 (iii): "0418h over two doubleword registers makes element 0 active and no other"."""
+        self.assertEqual(self.active(16, 0x0418), [0])
+        self.assertEqual(self.active(16, 0x8418), [1, 2, 3])
+        self.assertEqual(self.active(256, 0x0418), list(range(64)))
+        for bit in range(7, 15):
+            self.assertEqual(self.active(16, 0x0018 | 1 << bit), [0])
+            self.assertEqual(self.active(16, 1 << bit), [])
+
+    def test_highest_bit(self):
+        """The count goes up to bit log2(4 * vb)."""
+        for vb, highest in zip(LENGTHS, range(6, 11)):
+            half, whole = list(range(vb // 4)), list(range(vb // 2))
+            for size in [1, 2, 4, 8]:
+                self.assertEqual(self.active(vb, 1 << highest | size, 0xA160E000), half)
+                self.assertEqual(self.active(vb, 0x8000 | 1 << highest | size, 0xA160E000), whole[len(half):])
+                for bit in range(highest + 1, 15):
+                    self.assertEqual(self.active(vb, 1 << bit | size, 0xA160E000), [])
+                    self.assertEqual(self.active(vb, 1 << bit | 1 << highest | size, 0xA160E000), half)
+
+
 class Steps(unittest.TestCase):
     """How many active elements don't start where the active one before them ends."""
 

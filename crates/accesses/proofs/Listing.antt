@@ -172,7 +172,7 @@ module _ (m : Machine) (f : StridedFields) (s : StridedIn f (classFor (Strided f
   unfolding activeAt stridedActive
   strided-active e h =
       let v = counterOf m (f .pc) in
-      ap (λ (n : ℕ). maskBit v (e * n)) (s .step) ∙ sym (range-is v (countOf m (Strided f)) e h)
+      ap (λ (n : ℕ). maskBit (m .vb) v (e * n)) (s .step) ∙ sym (range-is (m .vb) v (countOf m (Strided f)) e h)
 
   wrapped : (a d : ℕ) → (a + d) % 2 ^ 64 ≡ (a % 2 ^ 64 + d) % 2 ^ 64
   wrapped a d = omega arith

@@ -78,8 +78,8 @@ module _ (m : Machine) (low : 16 ≤ m .vb) (high : m .vb ≤ 256) (sixteen : m 
   strided-sound f s =
       let c = classFor (Strided f) in
       record {
-        order = range-order (counterOf m (f .pc)) (c .nreg * perRegister m c);
-        most = range-most (counterOf m (f .pc)) (c .nreg * perRegister m c);
+        order = range-order (m .vb) (counterOf m (f .pc)) (c .nreg * perRegister m c);
+        most = range-most (m .vb) (counterOf m (f .pc)) (c .nreg * perRegister m c);
         packed = s .step ∙ sym (s .size);
         wide = omega (arith, s .step);
         some = s .small .size .0;

@@ -50,9 +50,9 @@ unit-more : (v i j : ℕ) → i ≤ j → i * 8 / unitOf v ≤ j * 8 / unitOf v
 unit-more v i j h = at-lowest (λ (s : ℕ). i * 8 / 2 ^ s ≤ j * 8 / 2 ^ s) (omega arith) (omega arith) (omega arith) (omega arith) v
 
 -- doublewords under the counter v
-pub counter-stretch : (v : ℕ) → OneStretch (λ (i : ℕ). maskBit v (i * 8))
+pub counter-stretch : (vb v : ℕ) → OneStretch (λ (i : ℕ). maskBit vb v (i * 8))
 unfolding maskBit
-counter-stretch v = marks-one (unitOf v) (countIn v) (unit-whole v) (unit-more v) (eqb (v % 16) 0) (ltb v (2 ^ 15))
+counter-stretch vb v = marks-one (unitOf v) (countIn vb v) (unit-whole v) (unit-more v) (eqb (v % 16) 0) (ltb v (2 ^ 15))
 
 -- ---- the active ones among n elements
 

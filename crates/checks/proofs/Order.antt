@@ -3,7 +3,7 @@ use mathlib.Core.Path.{_≡_, refl, sym, ap, _∙_}
 use mathlib.Core.Bool.{Bool, true, false, not, cond, _&&_, _||_}
 use mathlib.Core.List.{List, [], _∷_}
 use mathlib.Core.Logic.{⊎-elim}
-use Prim.Native.Nat.{ℕ, _*_, _%_, _≤_}
+use Prim.Native.Nat.{ℕ, _*_, _%_, _^_, _≤_}
 use native.Mathlib.Omega.{arith}
 use lib.Dec.{eqb}
 use lib.ListN.{length}
@@ -15,6 +15,8 @@ use Rattle.writes.specs.Elements.{Element}
 use Rattle.window.specs.Window.{windowOk}
 use Rattle.endian.proofs.Order.{absurdly}
 use Rattle.elements.specs.Machine.{Machine}
+use Rattle.elements.specs.Counter.{highest}
+use Rattle.elements.proofs.Highest.{four-times, highest-power}
 use Rattle.verdicts.specs.Verdicts.{elementsFor, sizeFor, lengthOk, registersOk, undefined, illegalFor, stack, stackFor}
 use Rattle.verdicts.specs.Verdicts.{decided}
 use Rattle.verdicts.specs.Verdicts.{verdictOf}
@@ -30,19 +32,26 @@ pub record Vb (vb : ℕ) : Type 0 where
   pub low : 16 ≤ vb
   pub high : vb ≤ 256
   pub sixteen : vb % 16 ≡ 0
+  pub power : 4 * vb ≡ 2 ^ highest vb
 
 pub length-sound : (vb : ℕ) → lengthOk vb ≡ true → Vb vb
 unfolding lengthOk
 length-sound vb e =
-    ⊎-elim (λ h. of 16 (eqb-true vb 16 h) (omega arith) (omega arith) refl)
-    (⊎-elim (λ h. of 32 (eqb-true vb 32 h) (omega arith) (omega arith) refl)
-    (⊎-elim (λ h. of 64 (eqb-true vb 64 h) (omega arith) (omega arith) refl)
-    (⊎-elim (λ h. of 128 (eqb-true vb 128 h) (omega arith) (omega arith) refl)
-    (λ h. of 256 (eqb-true vb 256 h) (omega arith) (omega arith) refl))))
+    ⊎-elim (λ h. of 4 (eqb-true vb 16 h) (omega arith) (omega arith) refl)
+    (⊎-elim (λ h. of 5 (eqb-true vb 32 h) (omega arith) (omega arith) refl)
+    (⊎-elim (λ h. of 6 (eqb-true vb 64 h) (omega arith) (omega arith) refl)
+    (⊎-elim (λ h. of 7 (eqb-true vb 128 h) (omega arith) (omega arith) refl)
+    (λ h. of 8 (eqb-true vb 256 h) (omega arith) (omega arith) refl))))
     (one-of (eqb vb 16) (eqb vb 32) (eqb vb 64) (eqb vb 128) (eqb vb 256) e)
   where
-    of : (n : ℕ) → vb ≡ n → 16 ≤ n → n ≤ 256 → n % 16 ≡ 0 → Vb vb
-    of n q a b d = record { low = omega arith; high = omega arith; sixteen = ap (λ (k : ℕ). k % 16) q ∙ d }
+    of : (k : ℕ) → vb ≡ 2 ^ k → 16 ≤ 2 ^ k → 2 ^ k ≤ 256 → 2 ^ k % 16 ≡ 0 → Vb vb
+    of k q a b d =
+        record {
+          low = omega arith;
+          high = omega arith;
+          sixteen = ap (λ (n : ℕ). n % 16) q ∙ d;
+          power = omega (arith, four-times k, ap (λ (n : ℕ). 2 ^ n) (ap highest q ∙ highest-power k));
+        }
 
 -- ---- 6
 

@@ -2,11 +2,12 @@
 ghost use mathlib.Core.Path.{_≡_};
 ghost use mathlib.Core.Bool.{false};
 ghost use mathlib.Core.List.{List};
-ghost use Prim.Native.Nat.{ℕ, _*_, _/_, _%_, _≤_};
+ghost use Prim.Native.Nat.{ℕ, _*_, _/_, _%_, _^_, _≤_};
 ghost use lib.ListN.{length};
 ghost use Rattle.encoding.specs.Encoding.{featureOf, refused};
 ghost use Rattle.endian.specs.LittleEndian.{Bytes};
 ghost use Rattle.elements.specs.Machine.{machine};
+ghost use Rattle.elements.specs.Counter.{highest};
 ghost use Rattle.elements.specs.Accesses.{VectorSound, vectorElements, StridedSound, stridedElements};
 ghost use Rattle.verdicts.specs.Verdicts.{onStack, someActive, stack};
 ghost use Rattle.checks.specs.Checking.{Sound, AccessSound, accessFor, elementsIn, checkedFor};
@@ -91,7 +92,7 @@ fn is_on_stack(store: Store) -> bool
 // What a store's elements have in common.
 fn access_for(store: Store, vb: usize, x: &[u64; 31], sp: u64, p: &[u8]) -> Checked
     requires { ⌜ refused store ≡ false ⌝ }
-    requires { ⌜ (16 ≤ vb) × (vb ≤ 256) × (length (now p) ≡ 2 * vb) ⌝ }
+    requires { ⌜ (16 ≤ vb) × (vb ≤ 256) × (length (now p) ≡ 2 * vb) × (4 * vb ≡ 2 ^ highest vb) ⌝ }
     ensures { λ r. ⌜ ((z : List ℕ) → r ≡ accessFor (machine vb (now (x .entry)) sp z (now (p .entry))) store) ⌝ }
 {
     match store {
@@ -137,7 +138,7 @@ pub fn check_store(
     p: &[u8],
 ) -> Checked
     requires { ⌜ refused store ≡ false ⌝ }
-    requires { ⌜ (16 ≤ vb) × (vb ≤ 256) × (vb % 16 ≡ 0) × (length (now p) ≡ 2 * vb) ⌝ }
+    requires { ⌜ (16 ≤ vb) × (vb ≤ 256) × (vb % 16 ≡ 0) × (length (now p) ≡ 2 * vb) × (4 * vb ≡ 2 ^ highest vb) ⌝ }
     ensures { λ r.
         ⌜ ((z : List ℕ) → Sound vb z (now (p .entry)) → Bytes z
         → r ≡ checkedFor flags (machine vb (now (x .entry)) sp z (now (p .entry))) store) ⌝ }

@@ -117,7 +117,7 @@ module _ (m : Machine) (o : Sound (m .vb) (m .z) (m .p)) (lent : Bytes (m .z)) w
     unfolding activeAt
     stretch =
         let v = counterOf m (f .pc) in
-        subst (λ (k : ℕ). OneStretch (λ (i : ℕ). maskBit v (i * k))) (sym (eight .0)) (counter-stretch v)
+        subst (λ (k : ℕ). OneStretch (λ (i : ℕ). maskBit (m .vb) v (i * k))) (sym (eight .0)) (counter-stretch (m .vb) v)
 
     one-run : stepsFrom none (elements m (Strided f)) ≤ 1
     unfolding elements elementAt

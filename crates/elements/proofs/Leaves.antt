@@ -1,15 +1,17 @@
 -- What the functions on single elements answer. Assumes nothing.
-use mathlib.Core.Path.{_≡_, refl, sym, ap, _∙_}
+use mathlib.Core.Path.{_≡_, refl, sym, ap, ap₂, _∙_}
 use mathlib.Core.Bool.{Bool, true, false, cond}
 use mathlib.Core.List.{List}
-use Prim.Native.Nat.{ℕ, _+_, _-_, _/_, _%_, _^_, _≤_, _<_}
-use native.Mathlib.Nat.{add-sub-cancel-left}
+use Prim.Native.Nat.{ℕ, _+_, _-_, _*_, _/_, _%_, _^_, _≤_, _<_}
+use native.Mathlib.Nat.{add-sub-cancel-left, pow-suc}
+use native.Mathlib.Numerals.{add-one}
 use native.Mathlib.Omega.{arith}
+use lib.Bits.{bitAnd, and-mask}
 use lib.Dec.{eqb, ltb}
 use lib.ListN.{getD, take, drop}
 use borrow.Author.Tests.{eq-eqb, ne-eqb, lt-ltb, le-ltb, ltb-true, ltb-false}
 use Rattle.elements.specs.Machine.{bitAt}
-use Rattle.elements.specs.Counter.{lowestSet, countIn}
+use Rattle.elements.specs.Counter.{lowestSet, highest, countIn}
 use Rattle.elements.specs.Stores.{signed32}
 
 pub bit-is : (s : List ℕ) (i b : ℕ) → b ≡ getD s (i / 8) 0 → eqb (b / 2 ^ (i % 8) % 2) 1 ≡ bitAt s i
@@ -75,6 +77,12 @@ module _ (v : ℕ) where
       pub lowest-3 : (v % 8 ≡ 4 → ⊥) → 3 ≡ lowestSet v
       lowest-3 h = sym (past-1 ∙ ap (λ (b : Bool). cond b 2 3) (ne-eqb (v % 8) 4 h))
 
-pub counted-is : (v s : ℕ) → s ≡ lowestSet v → v % 32768 / 2 ^ (s + 1) ≡ countIn v
+pub twice : (k : ℕ) → 2 ^ (k + 1) ≡ 2 ^ k * 2
+twice k = ap (λ (n : ℕ). 2 ^ n) (add-one k) ∙ pow-suc 2 k
+
+-- a mask takes the bits up to the highest
+pub counted-is : (vb v s m : ℕ) → 4 * vb ≡ 2 ^ highest vb → s ≡ lowestSet v → m ≡ 8 * vb - 1 → bitAnd v m / 2 ^ (s + 1) ≡ countIn vb v
 unfolding countIn
-counted-is v s e = ap (λ (k : ℕ). v % 32768 / 2 ^ (k + 1)) e
+counted-is vb v s m w e q =
+    let o : m ≡ 2 ^ (highest vb + 1) - 1 = omega (arith, twice (highest vb)) in
+    ap₂ (λ (x k : ℕ). x / 2 ^ (k + 1)) (ap (bitAnd v) o ∙ and-mask v (highest vb + 1)) e

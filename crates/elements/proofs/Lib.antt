@@ -1,4 +1,5 @@
 pub mod Leaves
+pub mod Highest
 pub mod Shapes
 pub mod Bits
 pub mod Numbers

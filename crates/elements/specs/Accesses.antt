@@ -79,15 +79,16 @@ quadwordAccess m c f =
 -- ---- doublewords under a counter: those that are active are one stretch
 
 -- how many have their mask bit below the count
-unfoldable pub borderOf : ℕ → ℕ
-borderOf v = (countIn v * unitOf v + 7) / 8
+unfoldable pub borderOf : ℕ → ℕ → ℕ
+borderOf vb v = (countIn vb v * unitOf v + 7) / 8
 
--- the first of n that is active, and the one behind the last; both are 0 where none is. `x - (x - y)` is the lower of two numbers.
-unfoldable pub lowOf : ℕ → ℕ → ℕ
-lowOf v n = cond (eqb (v % 16) 0) 0 (cond (ltb v (2 ^ 15)) 0 (borderOf v - (borderOf v - n)))
+-- by the border, the first of n that is active, and the one behind the last; both are 0 where none is. `x - (x - y)` is the lower of
+-- two numbers.
+unfoldable pub lowOf : ℕ → ℕ → ℕ → ℕ
+lowOf v border n = cond (eqb (v % 16) 0) 0 (cond (ltb v (2 ^ 15)) 0 (border - (border - n)))
 
-unfoldable pub highOf : ℕ → ℕ → ℕ
-highOf v n = cond (eqb (v % 16) 0) 0 (cond (ltb v (2 ^ 15)) (borderOf v - (borderOf v - n)) n)
+unfoldable pub highOf : ℕ → ℕ → ℕ → ℕ
+highOf v border n = cond (eqb (v % 16) 0) 0 (cond (ltb v (2 ^ 15)) (border - (border - n)) n)
 
 -- ---- strided stores
 
@@ -109,8 +110,8 @@ abbrev pub stridedAccess : Machine → Class → StridedFields → StridedAccess
 stridedAccess m c f =
     record {
       start = startOf m c (f .rn) (f .rm) (f .multiple) % 2 ^ 64;
-      low = lowOf (counterOf m (f .pc)) (c .nreg * perRegister m c);
-      high = highOf (counterOf m (f .pc)) (c .nreg * perRegister m c);
+      low = lowOf (counterOf m (f .pc)) (borderOf (m .vb) (counterOf m (f .pc))) (c .nreg * perRegister m c);
+      high = highOf (counterOf m (f .pc)) (borderOf (m .vb) (counterOf m (f .pc))) (c .nreg * perRegister m c);
       step = stepOf c;
       size = sizeOf c;
       per = perRegister m c;

@@ -38,7 +38,7 @@ countOf m s = classFor s .nreg * perRegister m (classFor s)
 -- "element e is active when bit e·esize/8 is 1"; "Element r·(VB/8) + e is active when its bit at 8 times that number is set."
 abbrev pub activeIn : Machine → Class → Store → ℕ → Bool
 activeIn m c (Scatter f) e = bitAt (predicate m (f .pg)) (e * stepOf c)
-activeIn m c (Strided f) e = maskBit (counterOf m (f .pc)) (e * stepOf c)
+activeIn m c (Strided f) e = maskBit (m .vb) (counterOf m (f .pc)) (e * stepOf c)
 activeIn m c (Quadword f) e = bitAt (predicate m (f .pg)) (e * stepOf c)
 
 -- ---- addresses

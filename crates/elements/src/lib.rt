@@ -11,7 +11,7 @@ ghost use mir.Syntax.{w64};
 ghost use mir.Val.{ofZ};
 ghost use Rattle.encoding.specs.Encoding.{classFor, refused};
 ghost use Rattle.elements.specs.Machine.{machine, register, bitAt};
-ghost use Rattle.elements.specs.Counter.{counterOf, lowestSet, countIn};
+ghost use Rattle.elements.specs.Counter.{counterOf, lowestSet, highest, countIn};
 ghost use Rattle.elements.specs.Stores.{signed32, startOf};
 ghost use Rattle.elements.specs.Accesses.{scatterAccess, quadwordAccess, stridedAccess, stridedOf};
 ghost use Rattle.elements.specs.Accesses.{offsetBytes, offsetFrom, addressFrom, vectorAddress, vectorActive};
@@ -177,20 +177,22 @@ pub fn lowest_set(v: u64) -> u32
     3
 }
 
-// A counter's count, with the index of its lowest set bit.
-pub fn counted(v: u64, shift: u32) -> u64
+// A counter's count, with the index of its lowest set bit: what stands above that, up to bit log2(4 * vb).
+pub fn counted(vb: usize, v: u64, shift: u32) -> u64
+    requires { ⌜ (4 * vb ≡ 2 ^ highest vb) × (vb ≤ 256) ⌝ }
     requires { ⌜ (shift ≡ lowestSet v) × (shift < 4) ⌝ }
-    ensures { λ r. ⌜ r ≡ countIn v ⌝ }
+    ensures { λ r. ⌜ r ≡ countIn vb v ⌝ }
 {
-    (v % 0x8000) >> (shift + 1)
+    (v & (8 * vb as u64 - 1)) >> (shift + 1)
 }
 
 // How many doublewords from the first on have a mask bit before the counter's count.
-fn border_of(v: u64) -> usize
-    ensures { λ r. ⌜ r ≡ borderOf v ⌝ }
+fn border_of(vb: usize, v: u64) -> usize
+    requires { ⌜ (4 * vb ≡ 2 ^ highest vb) × (vb ≤ 256) ⌝ }
+    ensures { λ r. ⌜ r ≡ borderOf vb v ⌝ }
 {
     let shift = lowest_set(v);
-    ((scaled(counted(v, shift), shift) + 7) / 8) as usize
+    ((scaled(counted(vb, v, shift), shift) + 7) / 8) as usize
 }
 
 // The lower of two numbers.
@@ -203,10 +205,9 @@ pub fn lower(x: usize, y: usize) -> usize
     y
 }
 
-// The active ones of n doublewords under the counter.
+// The active ones of n doublewords under the counter, by its border.
 fn range_of(v: u64, border: usize, n: usize) -> Range
-    requires { ⌜ border ≡ borderOf v ⌝ }
-    ensures { λ r. ⌜ (r .low ≡ lowOf v n) × (r .high ≡ highOf v n) ⌝ }
+    ensures { λ r. ⌜ (r .low ≡ lowOf v border n) × (r .high ≡ highOf v border n) ⌝ }
 {
     if v % 16 == 0 {
         return Range { low: 0, high: 0 };
@@ -313,13 +314,13 @@ fn stride_of(nreg: u32) -> usize
 // The active elements of a strided store.
 pub fn range_for(f: StridedFields, vb: usize, p: &[u8]) -> Range
     requires { ⌜ refused (Store.Strided f) ≡ false ⌝ }
-    requires { ⌜ (16 ≤ vb) × (vb ≤ 256) × (length (now p) ≡ 2 * vb) ⌝ }
+    requires { ⌜ (16 ≤ vb) × (vb ≤ 256) × (length (now p) ≡ 2 * vb) × (4 * vb ≡ 2 ^ highest vb) ⌝ }
     ensures { λ r.
         ⌜ (r .low ≡ stridedAccess (machine vb [] 0 [] (now (p .entry))) (classFor (Store.Strided f)) f .low)
         × (r .high ≡ stridedAccess (machine vb [] 0 [] (now (p .entry))) (classFor (Store.Strided f)) f .high) ⌝ }
 {
     let counter = counter_of(p, vb, f.pc);
-    let border = border_of(counter);
+    let border = border_of(vb, counter);
     let nreg = encoding::number_for(f.class, Number::Nreg) as usize;
     range_of(counter, border, nreg * (vb / 8))
 }

@@ -7,6 +7,7 @@ use Prim.Native.Nat.{ℕ, zero, suc, _<_}
 use native.Mathlib.Nat.{not-suc-le-zero, le-of-suc-le-suc, eq-or-lt-of-le, zero-lt-suc}
 use native.Mathlib.Omega.{arith}
 use lib.Dec.{T, ltb, ltb→lt, lt→ltb}
+use borrow.Author.Tests.{ltb-false}
 use lib.ListN.{length, getD}
 use Rattle.encoding.specs.Classes.{Class, position}
 use Rattle.encoding.specs.Encoding.{lowest}
@@ -86,3 +87,16 @@ module _ (p : ℕ → Bool) where
   lowest-holds zero h = absurd (not-suc-le-zero h)
   lowest-holds (suc n) h =
       passed (ltb (lowest p n) n) (p n) (lowest p n) n (λ t. lowest-holds n (ltb→lt (lowest p n) n t)) (λ t. t) h
+
+  -- none before it passes
+  pub lowest-below : (n j : ℕ) → j < lowest p n → T (p j) → ⊥
+  unfolding lowest
+  lowest-below zero j h t = not-suc-le-zero h
+  lowest-below (suc n) j h t = go (ltb (lowest p n) n) (p n) refl refl (λ l. lowest-below n j l t) h
+    where
+      go : (b q : Bool) → ltb (lowest p n) n ≡ b → p n ≡ q → (j < lowest p n → ⊥) → j < cond b (lowest p n) (cond q n (suc n)) → ⊥
+      go true q e f rest l = rest l
+      go false true e f rest l = rest (omega (arith, ltb-false (lowest p n) n e))
+      go false false e f rest l =
+          ⊎-elim (λ k. subst T (ap p k ∙ f) t) (λ k. rest (omega (arith, ltb-false (lowest p n) n e)))
+          (eq-or-lt-of-le (le-of-suc-le-suc l))

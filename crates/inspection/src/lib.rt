@@ -1,10 +1,11 @@
 // One element of a word's store on a lent machine: no flag is looked at, and no window judged.
 ghost use mathlib.Core.Path.{_≡_};
 ghost use mathlib.Core.Bool.{false};
-ghost use Prim.Native.Nat.{_*_};
+ghost use Prim.Native.Nat.{_*_, _^_};
 ghost use lib.ListN.{length};
 ghost use Rattle.encoding.specs.Encoding.{refused};
 ghost use Rattle.elements.specs.Machine.{machine};
+ghost use Rattle.elements.specs.Counter.{highest};
 ghost use Rattle.elements.specs.Accesses.{VectorSound, StridedSound};
 ghost use Rattle.checks.specs.Checking.{Sound};
 ghost use Rattle.inspection.specs.Inspection.{inspectedAt, inspectedOf};
@@ -88,7 +89,7 @@ fn inspect_store(
     p: &[u8],
     e: u64,
 ) -> Inspected
-    requires { ⌜ refused store ≡ false ⌝ }
+    requires { ⌜ (refused store ≡ false) × (4 * vb ≡ 2 ^ highest vb) ⌝ }
     requires { ⌜ Sound vb (now z) (now p) ⌝ }
     ensures { λ r. ⌜ r ≡ inspectedAt (machine vb (now (x .entry)) sp (now (z .entry)) (now (p .entry))) store e ⌝ }
 {

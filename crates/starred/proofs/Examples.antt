@@ -8,7 +8,7 @@ use lib.Ieee.Fits.{and-l, and-r}
 use lib.ListN.{length, replicate}
 use Rattle.encoding.specs.Classes.{classes, classAt, position, any, everyBelow, inside, belongs, has}
 use Rattle.encoding.specs.Decoding.{multipleOf, storeOf, indexOf, decodeOf}
-use Rattle.encoding.specs.Encoding.{rowOf}
+use Rattle.encoding.specs.Encoding.{rowOf, lowest}
 use Rattle.encoding.proofs.Tests.{every}
 use Rattle.endian.specs.LittleEndian.{Bytes, leVal, leBytes}
 use Rattle.writes.specs.Sets.{join, runs, writesAt}
@@ -17,7 +17,7 @@ use Rattle.writes.specs.Encoding.{runThen, runsThen, trailer, encodeRuns, encod
 use Rattle.writes.specs.Examples.{examplePatch}
 use Rattle.window.specs.Window.{windowOk, inWindow}
 use Rattle.elements.specs.Machine.{Machine, bitAt}
-use Rattle.elements.specs.Counter.{lowestSet, countIn, maskBit}
+use Rattle.elements.specs.Counter.{lowestSet, highest, countIn, maskBit}
 use Rattle.elements.specs.Elements.{activeAt, elementAt, actives, elements}
 use Rattle.verdicts.specs.Verdicts.{patchOf, lengthOk, registersOk, firstOutside, decided, verdictOf}
 use Rattle.verdicts.specs.declared.Verdict.the-variants.{Done}
@@ -63,13 +63,13 @@ counted = refl
 
 largest-due : NoneDue streaming largest 0x1000 1024 0xA160E000
 unfolding classes classAt position any everyBelow inside belongs has multipleOf storeOf indexOf decodeOf rowOf leVal windowOk inWindow
-    lowestSet countIn maskBit activeAt elementAt actives elements lengthOk registersOk firstOutside
+    lowestSet lowest highest countIn maskBit activeAt elementAt actives elements lengthOk registersOk firstOutside
 largest-due = (refl, (refl, (refl, (refl, (refl, (refl, (refl, tt)))))))
 
 largest-length : length (patchFor largest 0xA160E000) ≡ 1040
-unfolding classes classAt position any everyBelow inside belongs has multipleOf storeOf indexOf decodeOf rowOf leVal lowestSet countIn
-    maskBit activeAt elementAt actives elements patchOf spliceAll splice below from writesAt encode encodeRuns runsThen runThen
-    trailer runs join leBytes
+unfolding classes classAt position any everyBelow inside belongs has multipleOf storeOf indexOf decodeOf rowOf leVal lowestSet lowest
+    highest countIn maskBit activeAt elementAt actives elements patchOf spliceAll splice below from writesAt encode encodeRuns runsThen
+    runThen trailer runs join leBytes
 largest-length = refl
 
 -- ---- by demand 3

@@ -1,5 +1,5 @@
--- The starred cases of document 01, 'Cases at the edges', and document 02 (ii)'s example, in one table: each word is decoded and stored
--- on a whole machine. VB is 16.
+-- The starred cases of document 01, 'Cases at the edges', and the examples of document 02 (ii) and (iii), in one table: each word is
+-- decoded and stored on a whole machine. VB is 16.
 -- Assumes nothing.
 use Prim.Native.Nat.{ℕ, _+_, _-_, _*_}
 use mathlib.Core.Bool.{true, false}
@@ -152,6 +152,8 @@ cases =
     ∷ case 0xA1606000 streaming (on zeros 0x00 0x80) 0x1000 32 (strided 10 (pos 0) 0) (Done 0 0 4 0) (replicate 32 0) 0
     -- "0013h (byte count 9) elements 0 and 1"
     ∷ case 0xA1606000 streaming (on zeros 0x13 0x00) 0x1000 32 (strided 10 (pos 0) 0) (Done 2 16 32 1) (placedAt 32 0 (rows 0)) 9
+    -- document 02 (iii): "0418h over two doubleword registers makes element 0 active and no other"
+    ∷ case 0xA1606000 streaming (on zeros 0x18 0x04) 0x1000 32 (strided 10 (pos 0) 0) (Done 1 8 24 1) (placedAt 32 0 (take 8 (rows 0))) 1
     -- document 02 (ii): "A doubleword at FFFFFFFFFFFFFFFCh over a 16-byte window ending at 2^64 reports address 0."
     ∷ case 0xE581A000 plain (on top 0 0) 0xFFFFFFFFFFFFFFF0 16 (scatter 4 None) (Refused (Fault 0 0)) (replicate 16 0) 0
     ∷ []
@@ -173,7 +175,7 @@ outcome c =
       decoded = decodeOf (c .word);
       verdict = verdictIn c;
       memory = memoryAfter (verdictIn c) (c .base) (replicate (c .long) 0) (elementsFor (c .state) (decodeOf (c .word)));
-      count = countIn (counterOf (c .state) 0);
+      count = countIn (c .state .vb) (counterOf (c .state) 0);
     }
 
 abbrev pub expected : Case → Outcome

@@ -9,6 +9,7 @@ use compare::random::Random;
 use compare::report::Report;
 use compare::storing;
 use compare::storing::classes::CLASSES;
+use compare::storing::counters;
 use compare::storing::generate::other_word;
 use compare::GARBAGE;
 
@@ -41,6 +42,16 @@ fn storing() {
         storing::compare(&report, &side.store, STORES, 1);
         assert_eq!(report.differences(), 0, "{}", side.name);
     }
+}
+
+/// With the independent model, on every counter at every length. Only the quick one: the other takes
+/// its time for the patches, and its counters are among the random stores'.
+#[test]
+fn counters_of_strided_stores() {
+    let hand = SIDES.iter().find(|side| side.name == "hand").expect("a side");
+    let report = Report::default();
+    counters::compare(&report, &hand.store, 2);
+    assert_eq!(report.differences(), 0);
 }
 
 #[test]

@@ -19,7 +19,7 @@ pub fn members(known: Option<&Known>) -> [(&'static str, Json); 5] {
         ("class", known.map(|known| known.store.class).into()),
         ("class_name", known.map(|known| known.class.name).into()),
         ("fields", known.map(Known::fields).into()),
-        ("counter", known.and_then(Known::counter).into()),
+        ("counter", known.and_then(Known::counter_name).into()),
         ("assembly", known.and_then(Known::assembly).into()),
     ]
 }
@@ -50,16 +50,21 @@ impl Known {
 
     fn field(&self, field: &Field) -> String {
         let text = format!("{} {}", field.label, field.entry.of(&self.store));
-        match self.counter() {
+        match self.counter_name() {
             Some(counter) if *field == PC => format!("{text} ({counter})"),
             _ => text,
         }
     }
 
-    /// The predicate register that Pc names.
-    fn counter(&self) -> Option<String> {
+    /// The number of the predicate register that Pc names.
+    pub fn counter(&self) -> Option<usize> {
         let counts = self.class.fields.contains(&PC);
-        counts.then(|| format!("pn{}", 8 + self.store.predicate))
+        counts.then_some(8 + self.store.predicate as usize)
+    }
+
+    /// Its name as a counter.
+    pub fn counter_name(&self) -> Option<String> {
+        self.counter().map(|register| format!("pn{register}"))
     }
 
     fn fields(&self) -> Json {

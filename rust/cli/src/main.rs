@@ -11,6 +11,7 @@ mod apply;
 mod arguments;
 mod classes;
 mod command;
+mod counter;
 mod decode;
 mod encode;
 mod fields;

@@ -2,6 +2,7 @@
 
 use crate::arguments::Arguments;
 use crate::command::{Command, Failure, Report};
+use crate::counter::Counter;
 use crate::json::Json;
 use crate::known::{self, Known};
 use crate::missing::{Missing, REQUIRE};
@@ -27,17 +28,24 @@ where the active one before them ends.
 A fault (verdict 7) names the lowest active element with a byte outside the window, and the address,
 modulo 2^64, of the first of its bytes that isn't in the window. That byte is shown in ( ).
 All this is the proved model's answer. The assembly text, the note about registers that aren't
-given, and the note that numbers the byte in ( ), are not proved.
+given, the notes that say how the counter of a strided store is read, and so why an element is
+active, and the note that numbers the byte in ( ), are not proved.
+A counter is the low 16 bits of its register. The lowest set one of its bits 0 to 3 is its element
+size, 8 to 64 bits; without one nothing is active. The bits above that one, up to bit log2(4 VB),
+which is 6 at VB 16 and 10 at VB 256, are the count: so many elements of that size, from the first
+on, are active, or with bit 15 set all others. The bits from there up to bit 14 are ignored.
 
 ",
         store_help!(),
         "
 With --json the answer is an object. Its keys: word, verdict, verdict_name, class, class_name,
-fields, counter, assembly (as in `starshackle decode`), not_given (the note's registers), detail
-(of a fault: element, and address, which is that of its first byte outside the window, modulo 2^64),
-active_elements, bytes_moved, steps, elements (each with element, active, address, which is that of
-its first byte, bytes), window (address, length, memory). They are null where there is nothing to
-say.
+fields, counter, assembly (as in `starshackle decode`), not_given (the note's registers),
+counter_means (the notes about the counter: register, value, element_size, count, inverted,
+highest_bit, ignored, which are the bits that are set and ignored), detail (of a fault: element, and
+address, which is that of its first byte outside the window, modulo 2^64), active_elements,
+bytes_moved, steps, elements (each with element, active, address, which is that of its first byte,
+bytes), window (address, length, memory). They are null where there is nothing to say. What has
+\"proved\": false in it is not proved.
 
 Exit status: 0 done, 1 refused by the model, 2 bad usage, an unreadable file, or a register that is
 required and not given.
@@ -62,6 +70,8 @@ struct Answer {
     known: Option<Known>,
     outcome: Result<Stored, Refusal>,
     missing: Missing,
+    /// None where there are no elements.
+    counter: Option<Counter>,
     elements: Vec<Row>,
     base: u64,
     length: u64,
@@ -85,7 +95,9 @@ impl Answer {
         let elements = word.map_or(Vec::new(), |word| rows(&machine, word));
         let missing = Missing::of(word, &registers, &outcome);
         let (word, known) = (word.ok(), word.and_then(Known::decode).ok());
-        Answer { word, known, outcome, missing, elements, base, length, memory }
+        let counter = |known| Counter::of(known, &machine, elements.len());
+        let counter = known.as_ref().filter(|_| !elements.is_empty()).and_then(counter);
+        Answer { word, known, outcome, missing, counter, elements, base, length, memory }
     }
 
     fn text(&self) -> String {
@@ -110,6 +122,7 @@ impl Answer {
             let byte = fault.filter(|(element, _)| *element == number).map(|(_, byte)| byte);
             text += &row.text(number, byte);
         }
+        text += &self.counter.as_ref().map_or(String::new(), Counter::text);
         if let Some((number, byte)) = fault {
             let byte = format!("byte {byte} of element {number}, its first outside the window");
             text += &format!("  note (not proved): in ( ) is {byte}\n");
@@ -163,6 +176,7 @@ impl Answer {
         members.extend(verdicts::members(Verdict::of(&self.outcome)));
         members.extend(known::members(self.known.as_ref()));
         members.push(("not_given", self.missing.json()));
+        members.push(("counter_means", self.counter.as_ref().map(Counter::json).into()));
         members.extend(verdicts::store_members(&self.outcome));
         let rows = self.elements.iter().enumerate().map(|(number, row)| row.json(number));
         members.extend([("elements", Json::List(rows.collect())), ("window", self.window_json())]);

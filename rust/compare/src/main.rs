@@ -5,7 +5,8 @@
 use compare::decoding::{self, Extent};
 use compare::reference::{self, Reference};
 use compare::report::{self, Report};
-use compare::{encoding, patches, storing};
+use compare::storing::{self, counters};
+use compare::{encoding, patches};
 use std::io::{self, BufWriter, Write};
 use std::process::ExitCode;
 
@@ -16,6 +17,8 @@ usage: compare --texts BYTE
   print each word of a class with this top byte: the word, its class, its assembly text
 usage: compare --patches [STRINGS [SEED]] [--threads N]
   compare judging and applying patches on random strings
+usage: compare --counters [--threads N]
+  compare strided stores on every counter at every vector length
 usage: compare --stores [STORES] [--threads N]
   compare stores, run and made into patches in one call, on random inputs
 usage: compare --store NUMBER
@@ -29,6 +32,7 @@ enum Task {
     Compare { extent: Extent, threads: usize },
     Texts { top: u8 },
     Patches { strings: u64, seed: u64, threads: usize },
+    Counters { threads: usize },
     Stores { stores: u64, threads: usize },
     Store { number: u64 },
 }
@@ -57,6 +61,7 @@ fn task(arguments: &[&str]) -> Option<Task> {
         ["--sample"] => Task::Compare { extent: Extent::Sample, threads },
         ["--texts", top] => Task::Texts { top: u8::from_str_radix(top, 16).ok()? },
         ["--patches", numbers @ ..] => patches_task(numbers, threads)?,
+        ["--counters"] => Task::Counters { threads },
         ["--stores"] => Task::Stores { stores: storing::STORES, threads },
         ["--stores", stores] => Task::Stores { stores: stores.parse().ok()?, threads },
         ["--store", number] => Task::Store { number: number.parse().ok()? },
@@ -81,6 +86,7 @@ fn perform(task: Task) -> ExitCode {
         Task::Compare { extent, threads } => compare(&report, extent, threads),
         Task::Texts { top } => return listed(texts(top)),
         Task::Patches { strings, seed, threads } => patches::run(&report, strings, seed, threads),
+        Task::Counters { threads } => counters::run(&report, threads),
         Task::Stores { stores, threads } => storing::run(&report, stores, threads),
         Task::Store { number } => storing::one(&report, number),
     }
@@ -111,6 +117,9 @@ fn compare(report: &Report, extent: Extent, threads: usize) {
     }
     if !report.is_full() {
         patches::run(report, patches::STRINGS, patches::SEED, threads);
+    }
+    if !report.is_full() {
+        counters::run(report, threads);
     }
     if !report.is_full() {
         storing::run(report, storing::STORES, threads);

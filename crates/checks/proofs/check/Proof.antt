@@ -1,5 +1,6 @@
 -- `check`: the table's lines in their order. Assumes nothing.
-use mathlib.Core.Path.{sym, _∙_, subst}
+use mathlib.Core.Path.{_≡_, sym, _∙_, subst}
+use mathlib.Core.Bool.{false, not}
 use native.Mathlib.Omega.{arith}
 use borrow.Author.Needs.{needs}
 use borrow.Author.Tests.{not-false}
@@ -8,7 +9,7 @@ use Rattle.endian.proofs.LittleEndian.{bytes-at}
 use Rattle.elements.specs.Machine.{Machine, machine}
 use Rattle.checks.specs.Checking.{Sound, CheckedAs}
 use Rattle.verdicts.specs.declared.Refusal.the-variants.{Length, Registers, Window}
-use Rattle.checks.proofs.Order.{length-sound, of-length, of-registers, sound, of-window, of-decoded}
+use Rattle.checks.proofs.Order.{Vb, length-sound, of-length, of-registers, sound, of-window, of-decoded}
 use Rattle.checks.proofs.Checking.{refused-as, known-as, undefined-as}
 use Rattle.checks.proofs.check.Statement.{statement}
 use Rattle.checks.proofs.check.Tie as tie
@@ -32,17 +33,15 @@ returns c =
     refused-as (g .flags) (m (start l)) (g .base) (g .length) (g .word) Length (omega arith)
     (of-length (g .flags) (m (start l)) (g .base) (g .length) (g .word) (l .length-ok .result) (l .length-ok .ensures) (c .if1 .taken))
 
+-- VB is one of the five
+of-five : (l : tie.After-length-ok) → not (l .length-ok .result) ≡ false → Vb (start l .args .vb)
+of-five l t = length-sound (start l .args .vb) (sym (l .length-ok .ensures) ∙ not-false (l .length-ok .result) t)
+
 mul-if2 : tie.Need-mul-if2
-mul-if2 c =
-    let l = c .before in
-    let v = length-sound (start l .args .vb) (sym (l .length-ok .ensures) ∙ not-false (l .length-ok .result) (c .if1 .left)) in
-    omega (arith, v .high)
+mul-if2 c = omega (arith, of-five (c .before) (c .if1 .left) .high)
 
 mul-if2-2 : tie.Need-mul-if2-2
-mul-if2-2 c =
-    let l = c .before in
-    let v = length-sound (start l .args .vb) (sym (l .length-ok .ensures) ∙ not-false (l .length-ok .result) (c .if1 .left)) in
-    omega (arith, v .high)
+mul-if2-2 c = omega (arith, of-five (c .before) (c .if1 .left) .high)
 
 returns-2 : tie.Need-returns-2
 returns-2 c =
@@ -88,8 +87,9 @@ check-store-requires c κs =
     let w = d .before .before in
     let g = start (at w) .args in
     let o = registers-sound w in
+    let v = of-five (at w) (w .before .before .if1 .left) in
     let s = c .before .store .given in
-    (known-accepted (g .word) (s .0 .0) (sym (d .decode .ensures) ∙ s .1), (o .low, o .high, o .sixteen, o .long-p))
+    (known-accepted (g .word) (s .0 .0) (sym (d .decode .ensures) ∙ s .1), (o .low, o .high, o .sixteen, o .long-p, v .power))
 
 enum-told : tie.Need-enum-told
 enum-told c = search needs

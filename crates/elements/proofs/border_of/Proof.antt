@@ -19,12 +19,14 @@ scaled-requires c κs = search needs
 
 -- the border, and that what is divided is small
 border : (c : tie.After-scaled)
-    → ((c .scaled .result + 7) / 8 ≡ borderOf (c .before .before .before .args .v)) × (c .scaled .result < 2 ^ 15)
+    → let a = c .before .before .before .args in
+    ((c .scaled .result + 7) / 8 ≡ borderOf (a .vb) (a .v)) × (c .scaled .result < 2 ^ 15)
 border c =
     let k = c .before in
     let s = k .before in
-    border-is (s .before .args .v) (s .lowest-set .result) (k .counted .result) (c .scaled .result) (s .lowest-set .ensures .0)
-    (k .counted .ensures) (c .scaled .ensures)
+    let a = s .before in
+    border-is (a .args .vb) (a .args .v) (s .lowest-set .result) (k .counted .result) (c .scaled .result) (a .pre .0) (a .pre .1)
+    (s .lowest-set .ensures .0) (k .counted .ensures) (c .scaled .ensures)
 
 add-result : tie.Need-add-result
 add-result c = omega (arith, border c .1)

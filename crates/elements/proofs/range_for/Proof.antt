@@ -9,7 +9,7 @@ use Rattle.encoding.specs.Encoding.{classFor}
 use Rattle.encoding.specs.declared.Number.the-variants.{Nreg}
 use Rattle.encoding.specs.declared.Store.the-variants.{Strided}
 use Rattle.encoding.proofs.Statements.{listed}
-use Rattle.elements.specs.Accesses.{lowOf, highOf}
+use Rattle.elements.specs.Accesses.{borderOf, lowOf, highOf}
 use Rattle.elements.proofs.Shapes.{StridedIn, strided-in}
 use Rattle.elements.proofs.Numbers.{number-is, pers}
 use borrow.Author.Needs.{needs}
@@ -23,7 +23,7 @@ counter-of-requires : tie.Need-counter-of-requires
 counter-of-requires c κs = let a = c .before in (fields a .pc, a .pre .1 .0, a .pre .1 .1, a .pre .1 .2)
 
 border-of-requires : tie.Need-border-of-requires
-border-of-requires c κs = search needs
+border-of-requires c κs = let a = c .before .before in (a .pre .1 .3, a .pre .1 .1)
 
 number-for-requires : tie.Need-number-for-requires
 number-for-requires c κs = let a = c .before .before .before in listed (Strided (a .args .f)) (a .pre .0)
@@ -54,10 +54,11 @@ returns c =
     let v = n .before .before in
     let a = entry n in
     let q = v .counter-of .ensures in
+    let b = n .before .border-of .ensures ∙ ap (borderOf (a .args .vb)) q in
     let e = registers n in
     let r = pers (a .args .vb) (classFor (Strided (a .args .f))) (fields a .eight) 8 (sym (fields a .step)) in (
-      c .range-of .ensures .0 ∙ (λ i. lowOf (q i) (e i * r i)),
-      c .range-of .ensures .1 ∙ (λ i. highOf (q i) (e i * r i)),
+      c .range-of .ensures .0 ∙ (λ i. lowOf (q i) (b i) (e i * r i)),
+      c .range-of .ensures .1 ∙ (λ i. highOf (q i) (b i) (e i * r i)),
     )
 
 pub range-for-spec : {M : Type 1} → statement M

@@ -11,7 +11,7 @@ returns : tie.Need-returns
 returns c =
     let a = c .before .args in
     let e : a .v % 16 ≡ 0 = omega (arith, c .if1 .taken) in
-    (low-empty (a .v) (a .n) e, high-empty (a .v) (a .n) e)
+    (low-empty (a .v) (a .border) (a .n) e, high-empty (a .v) (a .border) (a .n) e)
 
 lower-requires : tie.Need-lower-requires
 lower-requires c κs = search needs
@@ -22,8 +22,8 @@ returns-2 c =
     let l = c .lower in
     let f : a .args .v % 16 ≡ 0 → ⊥ = λ e. omega (arith, c .before .before .if1 .left) in
     let u : a .args .v < 2 ^ 15 = omega (arith, c .before .if2 .taken) in (
-      low-up (a .args .v) (a .args .n) f u,
-      high-up (a .args .v) (a .args .n) f u (a .args .border) (a .pre) (l .result) (omega (arith, l .ensures)),
+      low-up (a .args .v) (a .args .border) (a .args .n) f u,
+      high-up (a .args .v) (a .args .border) (a .args .n) f u (l .result) (omega (arith, l .ensures)),
     )
 
 lower-requires-2 : tie.Need-lower-requires-2
@@ -35,8 +35,8 @@ returns-3 c =
     let l = c .lower2 in
     let f : a .args .v % 16 ≡ 0 → ⊥ = λ e. omega (arith, c .before .before .if1 .left) in
     let d : 2 ^ 15 ≤ a .args .v = omega (arith, c .before .if2 .left) in (
-      low-down (a .args .v) (a .args .n) f d (a .args .border) (a .pre) (l .result) (omega (arith, l .ensures)),
-      high-down (a .args .v) (a .args .n) f d,
+      low-down (a .args .v) (a .args .border) (a .args .n) f d (l .result) (omega (arith, l .ensures)),
+      high-down (a .args .v) (a .args .border) (a .args .n) f d,
     )
 
 pub range-of-spec : {M : Type 1} → statement M

@@ -78,7 +78,9 @@ enum-known-store c = search needs
 inspect-store-requires : tie.Need-inspect-store-requires
 inspect-store-requires c κs =
     let d = c .before .before .before in
-    (known-accepted (start (d .before) .args .word) _ (sym (d .decode .ensures) ∙ c .before .store .given .1), lent (d .before))
+    let e = d .before in
+    let v = sound (e .before .before .before) (e .before .before .if1 .left) in
+    ((known-accepted (start e .args .word) _ (sym (d .decode .ensures) ∙ c .before .store .given .1), v .power), lent e)
 
 enum-told : tie.Need-enum-told
 enum-told c = search needs

@@ -29,7 +29,7 @@ module _ (a : tie.Start) where
 
   -- the store, by its case
   ok : (s : Store) → a .args .store ≡ s → refused s ≡ false
-  ok s e = ap refused (sym e) ∙ a .pre .0
+  ok s e = ap refused (sym e) ∙ a .pre .0 .0
 
   -- what an access that is the store's asks and answers
   vector-asks : (v w : VectorAccess) → v ≡ w → VectorSound w (a .args .vb)
@@ -77,7 +77,7 @@ range-for-requires : tie.Need-range-for-requires
 range-for-requires c κs =
     let t = c .before .before in
     let a = strided t in
-    (ok a _ (t .store2 .given .1), (a .pre .1 .low, a .pre .1 .high, a .pre .1 .long-p))
+    (ok a _ (t .store2 .given .1), (a .pre .1 .low, a .pre .1 .high, a .pre .1 .long-p, a .pre .0 .1))
 
 strided-access-requires : tie.Need-strided-access-requires
 strided-access-requires c κs = let t = c .before .before .before in ok (strided t) _ (t .store2 .given .1)

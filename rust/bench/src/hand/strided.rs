@@ -62,7 +62,7 @@ impl<'a> Stretch<'a> {
         let registers = if matches!(row.class, 8 | 10) { 2 } else { 4 };
         let counter = lent.p(8 + field(word, 10, 7));
         let counter = u16::from_le_bytes([counter[0], counter[1]]);
-        let (low, high) = active(counter, registers * vb);
+        let (low, high) = active(counter, vb, registers * vb);
         let displacement = match row.step {
             0 => lent.index() << 3,
             _ => (row.multiple(word) * vb as i64) as u64,
@@ -102,14 +102,15 @@ impl<'a> Stretch<'a> {
     }
 }
 
-/// The first active byte of so many and the one behind the last.
+/// The first active byte of so many and the one behind the last. VB is a power of two, and the count
+/// goes up to bit log2(4 VB).
 #[inline(always)]
-fn active(counter: u16, bytes: usize) -> (usize, usize) {
+fn active(counter: u16, vb: usize, bytes: usize) -> (usize, usize) {
     if counter & 15 == 0 {
         return (0, 0);
     }
     let lowest = counter.trailing_zeros();
-    let count = usize::from(counter & 0x7FFF) >> (lowest + 1);
+    let count = (usize::from(counter) & (8 * vb - 1)) >> (lowest + 1);
     // Whole elements.
     let border = (((count << lowest) + SIZE - 1) & !(SIZE - 1)).min(bytes);
     match counter >> 15 {

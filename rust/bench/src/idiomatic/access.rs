@@ -32,7 +32,7 @@ impl<'a> Access<'a> {
         let form = class.form;
         machine.allow(form)?;
         let active = match form {
-            Form::Strided { .. } => Active::counter(machine.p(8 + store.predicate)),
+            Form::Strided { .. } => Active::counter(machine.p(8 + store.predicate), machine.vb),
             _ => Active::Predicate(machine.p(store.predicate)),
         };
         let x = |register: u64, other| *machine.x.get(register as usize).unwrap_or(&other);

@@ -13,13 +13,14 @@ pub enum Active<'a> {
 }
 
 impl<'a> Active<'a> {
-    pub fn counter(register: &[u8]) -> Active<'a> {
+    /// Those of a counter, whose count goes up to bit log2(4 VB) of the register.
+    pub fn counter(register: &[u8], vb: usize) -> Active<'a> {
         let counter = u16::from_le_bytes([register[0], register[1]]);
         if counter & 0xF == 0 {
             return Active::None;
         }
         let dropped = counter.trailing_zeros();
-        let count = usize::from(counter & 0x7FFF) >> (dropped + 1);
+        let count = (usize::from(counter) & (8 * vb - 1)) >> (dropped + 1);
         Active::Counter { dropped, count, inverted: counter >> 15 == 1 }
     }
 

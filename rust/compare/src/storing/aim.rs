@@ -150,7 +150,7 @@ pub fn counter(random: &mut Random, class: &Class, input: &mut Input) -> (u64, u
         _ => random.below(count + 1),
     };
     let inverted = random.one_in(2);
-    let value = counter_value(random, border, inverted);
+    let value = counter_value(random, border, inverted, input.vb);
     let from = (8 + PREDICATE.of(input.word)) * input.vb / 8;
     input.p[from..from + 2].copy_from_slice(&value.to_le_bytes());
     let border = border.min(count) as u64 * 8;
@@ -162,16 +162,26 @@ pub fn counter(random: &mut Random, class: &Class, input: &mut Input) -> (u64, u
 }
 
 /// A counter, of any element size, by which the doublewords below a border are active, or those
-/// from it on; sometimes another one.
-fn counter_value(random: &mut Random, border: usize, inverted: bool) -> u16 {
-    let top = u16::from(inverted) << 15;
+/// from it on; sometimes another one. In many of them bits above the count's highest are set.
+fn counter_value(random: &mut Random, border: usize, inverted: bool, vb: usize) -> u16 {
     let lowest = random.below(4);
     let each = 8 >> lowest;
     let count = (border * each).saturating_sub(random.below(each)) as u16;
+    // A count of the mask's elements, all of them, has no room, and is said by the inverse of none.
+    let (count, inverted) = match usize::from(count) << lowest {
+        bytes if bytes == 4 * vb => (0, !inverted),
+        _ => (count, inverted),
+    };
+    let top = u16::from(inverted) << 15;
+    let ignored = match random.below(4) {
+        0 => random.number() as u16,
+        1 => 1 << random.below(16),
+        _ => 0,
+    };
     match random.below(16) {
         0 => random.number() as u16 & 0x7FF0 | top,
         1 => random.number() as u16,
-        _ => (count << 1 | 1) << lowest & 0x7FFF | top,
+        _ => (count << 1 | 1) << lowest | ignored & 0x7FFF & !(8 * vb as u16 - 1) | top,
     }
 }
 

@@ -233,7 +233,7 @@ fn quadword(input: &Input, class: &Class) -> Vec<Element> {
 
 fn strided(input: &Input, class: &Class, registers: usize, immediate: bool) -> Vec<Element> {
     let (word, bytes) = (input.word, class.esize / 8);
-    let mask = counter_to_predicate(p(input, 8 + PREDICATE.of(word)), input.vb);
+    let mask = counter_to_predicate(counter(input), input.vb);
     let (first, stride) = match registers {
         2 => (ZT3.of(word), 8),
         _ => (ZT2.of(word), 4),
@@ -256,14 +256,30 @@ fn strided(input: &Input, class: &Class, registers: usize, immediate: bool) -> V
 }
 
 /// `CounterToPredicate`: the mask over four registers, a bit for each of their bytes.
-fn counter_to_predicate(counter: &[u8], vb: usize) -> Vec<bool> {
+pub fn counter_to_predicate(counter: &[u8], vb: usize) -> Vec<bool> {
+    mask_up_to(maxbit(vb), counter, vb)
+}
+
+/// Arm's `maxbit`, `HighestSetBit(CeilPow2(PL * 4))`, where a predicate register has PL bits: as many
+/// as a vector register has bytes.
+pub fn maxbit(vb: usize) -> usize {
+    (0..16).find(|&bit| 4 * vb <= 1 << bit).expect("vectors are short")
+}
+
+/// The mask of a counter whose count goes up to this bit; those above it, but for bit 15, are ignored.
+pub fn mask_up_to(highest: usize, counter: &[u8], vb: usize) -> Vec<bool> {
     let mut mask = vec![false; 4 * vb];
     if let Some(lowest) = (0..4).find(|&number| bit(counter, number)) {
-        let count = number((lowest + 1..15).map(|above| bit(counter, above))) as usize;
+        let count = number((lowest + 1..=highest).map(|above| bit(counter, above))) as usize;
         let inverted = bit(counter, 15);
         for (k, first) in mask.iter_mut().step_by(1 << lowest).enumerate() {
             *first = if inverted { k >= count } else { k < count };
         }
     }
     mask
+}
+
+/// The register with the counter of a strided store, from its lowest byte.
+pub fn counter(input: &Input) -> &[u8] {
+    p(input, 8 + PREDICATE.of(input.word))
 }

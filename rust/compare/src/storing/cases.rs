@@ -152,6 +152,52 @@ fn counters_over_two_registers() {
     }
 }
 
+/// The same at another length, whose memory is long enough.
+fn strided_at(vb: usize, word: u32, counter: u16) -> Input {
+    let (z, mut p) = (vec![0; 32 * vb], vec![0; 2 * vb]);
+    p[vb..vb + 2].copy_from_slice(&counter.to_le_bytes());
+    over(1_024, &Input { vb, z, p, base: 0x1000, ..strided(word, 0) })
+}
+
+/// Document 02 (iii): "0418h over two doubleword registers makes element 0 active and no other", and
+/// so with each of the bits above bit 6 up to 14.
+#[test]
+fn counters_on_short_vectors() {
+    for counter in (7..15).map(|bit| 0x0018 | 1 << bit).chain([0x0418, 0x7F98]) {
+        let store = strided(0xA13F_6000, counter);
+        assert_eq!((active(&store), answer(&store)), (vec![0], done(1, 8, 24, 1)), "{counter:04X}");
+        let inverted = strided(0xA13F_6000, counter | 0x8000);
+        assert_eq!((active(&inverted), answer(&inverted)), (vec![1, 2, 3], done(3, 24, 40, 1)));
+    }
+    // Without an element size nothing is active, whatever the bits are.
+    assert_eq!(active(&strided(0xA13F_6000, 0xFFF0)), []);
+}
+
+/// "Bit 6 at VB 16 and bit 10 at VB 256": the highest bit counts, and those above it don't.
+#[test]
+fn the_counts_highest_bit() {
+    for (vb, highest) in LENGTHS.into_iter().zip(6..) {
+        let two = |counter| answer(&strided_at(vb, 0xA13F_6000, counter)).numbers[2];
+        let four = |counter| answer(&strided_at(vb, 0xA13F_E000, counter)).numbers[2];
+        let (half, all) = (vb as u64 / 4, vb as u64 / 2);
+        for lowest in [1, 2, 4, 8] {
+            // The highest bit alone is a count of half of the mask's elements: two registers.
+            let counter = 1 << highest | lowest;
+            assert_eq!([two(counter), four(counter)], [half, half], "{counter:04X}");
+            assert_eq!([two(counter | 0x8000), four(counter | 0x8000)], [0, half]);
+            // All bits up to it are a count of all elements but the last, which is a doubleword, or
+            // starts none.
+            let most = ((2 << highest) - 1) & !(lowest - 1);
+            assert_eq!(four(most), all - u64::from(lowest == 8), "{most:04X}");
+            for above in highest + 1..15 {
+                assert_eq!(four(1 << above | lowest), 0);
+                assert_eq!(four(1 << above | lowest | 0x8000), all);
+                assert_eq!(four(1 << above | counter), half);
+            }
+        }
+    }
+}
+
 #[test]
 fn the_whole_example() {
     let first = bytes_at(16, &[0, 1, 1, 5], &[0xA1, 0xA2, 0xA3, 0xA4]);

@@ -1,7 +1,8 @@
 //! What the random stores have to hit.
 
-use super::arm::{self, Element, SP_CHECK, STREAMING};
-use super::classes::{class_of, Form, BASE, CLASSES, PREDICATE, R31};
+use super::arm::{self, mask_up_to, maxbit, Element, SP_CHECK, STREAMING};
+use super::classes::{class_of, Form, BASE, CLASSES, R31};
+use super::counters::STRIDED;
 use super::effect::Effect;
 use super::joints::joints;
 use super::subject::Subject;
@@ -21,6 +22,7 @@ pub const SCATTER: &[u64] = &[1, 2, 3, 4, 5, 6, 7, 12];
 pub const UNSCALED: &[u64] = &[2, 4, 5, 6, 7, 12];
 const FROM_SP: &[u64] = &[1, 2, 3, 4, 5, 6, 7, 8, 9, 10, 11];
 const VERDICT: &[u64] = &[0, 1, 2, 3, 4, 5, 6, 7];
+const VB: &[u64] = &[16, 32, 64, 128, 256];
 const SIZE: &[u64] = &[0, 8, 16, 32, 64];
 const BITS: &[u64] = &[0, 1, 2, 3];
 const RUNS: &[u64] = &[0, 1, 2, 3, 4, 7, 8, 15, 16, 31, 32, 33, 63, 64];
@@ -42,8 +44,16 @@ pub const GROUPS: &[Group] = &[
     group("VB 64, class, done", CLASS, |s| s.class_where(|s, _| s.input.vb == 64)),
     group("VB 128, class, done", CLASS, |s| s.class_where(|s, _| s.input.vb == 128)),
     group("VB 256, class, done", CLASS, |s| s.class_where(|s, _| s.input.vb == 256)),
-    group("counter's size, bit 15 clear", SIZE, |s| s.counter(false)),
-    group("counter's size, bit 15 set", SIZE, |s| s.counter(true)),
+    group("counter's size, bit 15 clear", SIZE, |s| s.counter_size(false)),
+    group("counter's size, bit 15 set", SIZE, |s| s.counter_size(true)),
+    group("VB, counter's highest bit decides", VB, |s| s.counter_decided(|vb| maxbit(vb) - 1)),
+    group("VB, ignored bits decide, bit 15 clear", VB, |s| s.ignored(false)),
+    group("VB, ignored bits decide, bit 15 set", VB, |s| s.ignored(true)),
+    group("VB 16, class, ignored bits decide", STRIDED, |s| s.ignored_at(16)),
+    group("VB 32, class, ignored bits decide", STRIDED, |s| s.ignored_at(32)),
+    group("VB 64, class, ignored bits decide", STRIDED, |s| s.ignored_at(64)),
+    group("VB 128, class, ignored bits decide", STRIDED, |s| s.ignored_at(128)),
+    group("VB 256, class, ignored bits decide", STRIDED, |s| s.ignored_at(256)),
     group("streaming and FA64 as bits, one register", BITS, |s| s.streaming(false)),
     group("streaming and FA64 as bits, strided", BITS, |s| s.streaming(true)),
     group("SP checks as bits, SP unaligned", BITS, |s| s.stack(true)),
@@ -239,13 +249,37 @@ impl Subject {
         matches!(self.form(), Some(Form::Strided { .. }))
     }
 
-    /// The element size of the counter of a strided store whose elements were looked at.
-    fn counter(&self, inverted: bool) -> Option<u64> {
+    /// The counter of a strided store whose elements were looked at.
+    fn counter(&self) -> Option<&[u8]> {
         let looked = self.is_strided() && matches!(self.verdict(), DONE | FAULT);
-        let from = looked.then(|| (8 + PREDICATE.of(self.input.word)) * self.input.vb / 8)?;
-        let (low, high) = (self.input.p[from], self.input.p[from + 1]);
-        let size = if low & 15 == 0 { 0 } else { 8 << low.trailing_zeros() };
-        (high >> 7 == u8::from(inverted)).then_some(size)
+        looked.then(|| arm::counter(&self.input))
+    }
+
+    /// The counter's element size, where it is or isn't inverted.
+    fn counter_size(&self, inverted: bool) -> Option<u64> {
+        let counter = self.counter()?;
+        let size = if counter[0] & 15 == 0 { 0 } else { 8 << counter[0].trailing_zeros() };
+        (counter[1] >> 7 == u8::from(inverted)).then_some(size)
+    }
+
+    /// The vector length where elements would be active otherwise if the count went up to another bit.
+    fn counter_decided(&self, highest: fn(usize) -> usize) -> Option<u64> {
+        let (counter, vb) = (self.counter()?, self.input.vb);
+        let other = mask_up_to(highest(vb), counter, vb);
+        let mut elements = self.elements().iter().zip(other.chunks(8));
+        elements.any(|(element, other)| element.active != other[0]).then_some(vb as u64)
+    }
+
+    /// The vector length where bits above the count's highest would change what is active.
+    fn ignored(&self, inverted: bool) -> Option<u64> {
+        self.counter().filter(|counter| counter[1] >> 7 == u8::from(inverted))?;
+        self.counter_decided(|_| 14)
+    }
+
+    /// The class of such a store at this vector length.
+    fn ignored_at(&self, vb: usize) -> Option<u64> {
+        (self.input.vb == vb).then(|| self.counter_decided(|_| 14))??;
+        self.class()
     }
 }
 

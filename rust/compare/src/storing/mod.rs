@@ -7,6 +7,7 @@ mod bits;
 #[cfg(test)]
 mod cases;
 pub mod classes;
+pub mod counters;
 mod effect;
 mod faulting;
 mod faults;

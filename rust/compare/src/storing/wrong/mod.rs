@@ -2,6 +2,7 @@
 
 mod answers;
 mod buffers;
+mod counters;
 mod elements;
 mod faults;
 mod memory;
