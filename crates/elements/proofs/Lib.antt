@@ -3,4 +3,3 @@ pub mod Highest
 pub mod Shapes
 pub mod Bits
 pub mod Numbers
-pub mod Ranges

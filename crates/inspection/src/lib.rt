@@ -97,7 +97,7 @@ fn inspect_store(
         Store::Scatter(f) => inspect_vector(elements::scatter_access(f, vb, x, sp), vb, z, p, e),
         Store::Strided(f) => {
             let start = elements::start_of(f, vb, x, sp);
-            let range = elements::range_for(f, vb, p);
+            let range = counters::range_for(f, vb, p);
             inspect_strided(elements::strided_access(f, start, range, vb), vb, e)
         }
         Store::Quadword(f) => inspect_vector(elements::quadword_access(f, vb, x), vb, z, p, e),

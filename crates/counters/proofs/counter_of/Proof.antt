@@ -5,10 +5,10 @@ use Prim.Native.Nat.{ℕ, _+_, _*_, _/_, _≤_, _<_}
 use native.Mathlib.Omega.{arith}
 use lib.ListN.{length, take}
 use Rattle.endian.specs.LittleEndian.{leVal}
 use Rattle.elements.proofs.Numbers.{register-within, register-long}
 use borrow.Author.Needs.{needs}
-use Rattle.elements.proofs.counter_of.Statement.{statement}
-use Rattle.elements.proofs.counter_of.Tie as tie
+use Rattle.counters.proofs.counter_of.Statement.{statement}
+use Rattle.counters.proofs.counter_of.Tie as tie
 
 -- register g lies in the buffer
 inside : (a : tie.Start) (g : ℕ) → g < 16 → g * (a .args .vb / 8) + a .args .vb / 8 ≤ length (a .args .p .now)

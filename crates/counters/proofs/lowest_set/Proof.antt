@@ -1,8 +1,8 @@
 -- `lowest_set`: bit by bit from the lowest. No loop. Assumes nothing.
 use native.Mathlib.Omega.{arith}
 use Rattle.elements.proofs.Leaves.{lowest-0, lowest-1, lowest-2, lowest-3}
-use Rattle.elements.proofs.lowest_set.Statement.{statement}
-use Rattle.elements.proofs.lowest_set.Tie as tie
+use Rattle.counters.proofs.lowest_set.Statement.{statement}
+use Rattle.counters.proofs.lowest_set.Tie as tie
 
 returns : tie.Need-returns
 returns c = (lowest-0 (c .before .args .v) (c .if1 .taken), omega arith)

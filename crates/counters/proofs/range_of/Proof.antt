@@ -2,10 +2,10 @@
 use mathlib.Core.Path.{_≡_}
 use Prim.Native.Nat.{_%_, _^_, _≤_, _<_}
 use native.Mathlib.Omega.{arith}
-use Rattle.elements.proofs.Ranges.{low-empty, low-up, low-down, high-empty, high-up, high-down}
+use Rattle.counters.proofs.Ranges.{low-empty, low-up, low-down, high-empty, high-up, high-down}
 use borrow.Author.Needs.{needs}
-use Rattle.elements.proofs.range_of.Statement.{statement}
-use Rattle.elements.proofs.range_of.Tie as tie
+use Rattle.counters.proofs.range_of.Statement.{statement}
+use Rattle.counters.proofs.range_of.Tie as tie
 
 returns : tie.Need-returns
 returns c =

@@ -2,11 +2,11 @@
 use Prim.Native.Nat.{_+_, _/_, _^_, _<_}
 use mathlib.Core.Path.{_≡_}
 use native.Mathlib.Omega.{arith}
 use Rattle.elements.specs.Accesses.{borderOf}
-use Rattle.elements.proofs.Ranges.{border-is}
+use Rattle.counters.proofs.Ranges.{border-is}
 use borrow.Author.Needs.{needs}
-use Rattle.elements.proofs.border_of.Statement.{statement}
-use Rattle.elements.proofs.border_of.Tie as tie
+use Rattle.counters.proofs.border_of.Statement.{statement}
+use Rattle.counters.proofs.border_of.Tie as tie
 
 lowest-set-requires : tie.Need-lowest-set-requires
 lowest-set-requires c κs = search needs

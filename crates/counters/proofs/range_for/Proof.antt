@@ -9,12 +9,12 @@ use Rattle.encoding.specs.Encoding.{classFor}
 use Rattle.encoding.specs.declared.Number.the-variants.{Nreg}
 use Rattle.encoding.specs.declared.Store.the-variants.{Strided}
 use Rattle.encoding.proofs.Statements.{listed}
 use Rattle.elements.specs.Accesses.{borderOf, lowOf, highOf}
 use Rattle.elements.proofs.Shapes.{StridedIn, strided-in}
 use Rattle.elements.proofs.Numbers.{number-is, pers}
 use borrow.Author.Needs.{needs}
-use Rattle.elements.proofs.range_for.Statement.{statement}
-use Rattle.elements.proofs.range_for.Tie as tie
+use Rattle.counters.proofs.range_for.Statement.{statement}
+use Rattle.counters.proofs.range_for.Tie as tie
 
 fields : (a : tie.Start) → StridedIn (a .args .f) (classFor (Strided (a .args .f)))
 fields a = strided-in (a .args .f) (a .pre .0)

@@ -1,11 +1,11 @@
 -- `counted`: the number above the lowest set bit, by a mask. No loop. Assumes nothing.
 use native.Mathlib.Omega.{arith}
 use lib.Pow.{pow-pos}
 use Rattle.elements.specs.Counter.{highest}
 use Rattle.elements.proofs.Leaves.{counted-is}
 use borrow.Author.Needs.{needs}
-use Rattle.elements.proofs.counted.Statement.{statement}
-use Rattle.elements.proofs.counted.Tie as tie
+use Rattle.counters.proofs.counted.Statement.{statement}
+use Rattle.counters.proofs.counted.Tie as tie
 
 mul-result : tie.Need-mul-result
 mul-result c = omega (arith, c .pre .0 .1)
