@@ -1,5 +1,6 @@
 /*
- * Starshackle: a proved model of Arm's predicated vector stores (SVE scatter ST1D and ST1B, SME2 strided ST1D, SVE2p1 ST1Q).
+ * Starshackle: a proved model of Arm's predicated vector stores (SVE scatter ST1B, ST1H, ST1W and ST1D, SME2 strided ST1D,
+ * SVE2p1 ST1Q).
  *
  * Link with libstarshackle.a, which `rt staticlib starshackle` makes. It needs nothing but the C library.
  *
@@ -33,8 +34,8 @@ enum starshackle_verdict {
     STARSHACKLE_LENGTH = 1,    /* vb is none of 16, 32, 64, 128, 256 */
     STARSHACKLE_REGISTERS = 2, /* z_len isn't 32 * vb, or p_len isn't 2 * vb */
     STARSHACKLE_WINDOW = 3,    /* the window is longer than 65,536 bytes, or passes 2^64; it may end there */
-    STARSHACKLE_UNDEFINED = 4, /* the word is of no class, or its flag is off: SVE for 1..7, SME2 for 8..11, SVE2P1 for 12 */
-    STARSHACKLE_ILLEGAL = 5,   /* 1..7 and 12: streaming on and FA64 off; 8..11: streaming off */
+    STARSHACKLE_UNDEFINED = 4, /* the word is of no class, or its flag is off: SVE for 1..7 and 13..24, SME2 for 8..11, SVE2P1 for 12 */
+    STARSHACKLE_ILLEGAL = 5,   /* 1..7 and 12..24: streaming on and FA64 off; 8..11: streaming off */
     STARSHACKLE_STACK = 6,     /* SP is the base, is checked, and isn't a multiple of 16 */
     STARSHACKLE_FAULT = 7,     /* an active element has a byte outside the window */
     STARSHACKLE_NO_ROOM = 8,   /* the patch buffer is shorter than the patch */
@@ -49,7 +50,7 @@ enum starshackle_flag {
     STARSHACKLE_FLAG_SME2 = 2,
     STARSHACKLE_FLAG_SVE2P1 = 4,
     STARSHACKLE_FLAG_STREAMING = 8,            /* streaming mode is on */
-    STARSHACKLE_FLAG_FA64 = 16,                /* classes 1..7 and 12 are legal in streaming mode */
+    STARSHACKLE_FLAG_FA64 = 16,                /* classes 1..7 and 12..24 are legal in streaming mode */
     STARSHACKLE_FLAG_SP_CHECK = 32,            /* SP as a base has to be a multiple of 16 where an element is active, */
     STARSHACKLE_FLAG_SP_CHECK_NONE_ACTIVE = 64 /* and, with this flag too, where none is */
 };
@@ -67,10 +68,22 @@ enum starshackle_class {
     STARSHACKLE_CLASS_ST1D_STRIDED_FOUR_SCALAR = 9,
     STARSHACKLE_CLASS_ST1D_STRIDED_TWO_IMMEDIATE = 10,
     STARSHACKLE_CLASS_ST1D_STRIDED_FOUR_IMMEDIATE = 11,
-    STARSHACKLE_CLASS_ST1Q = 12
+    STARSHACKLE_CLASS_ST1Q = 12,
+    STARSHACKLE_CLASS_ST1H_32_UNPACKED_SCALED = 13,
+    STARSHACKLE_CLASS_ST1H_32_UNPACKED_UNSCALED = 14,
+    STARSHACKLE_CLASS_ST1H_64_SCALED = 15,
+    STARSHACKLE_CLASS_ST1H_64_UNSCALED = 16,
+    STARSHACKLE_CLASS_ST1H_32_SCALED = 17,
+    STARSHACKLE_CLASS_ST1H_32_UNSCALED = 18,
+    STARSHACKLE_CLASS_ST1W_32_UNPACKED_SCALED = 19,
+    STARSHACKLE_CLASS_ST1W_32_UNPACKED_UNSCALED = 20,
+    STARSHACKLE_CLASS_ST1W_64_SCALED = 21,
+    STARSHACKLE_CLASS_ST1W_64_UNSCALED = 22,
+    STARSHACKLE_CLASS_ST1W_32_SCALED = 23,
+    STARSHACKLE_CLASS_ST1W_32_UNSCALED = 24
 };
 
-/* How the 32-bit offsets of classes 1, 2, 5 and 6 become 64-bit ones. */
+/* How the 32-bit offsets of classes 1, 2, 5, 6, 13, 14, 17..20, 23 and 24 become 64-bit ones. */
 enum starshackle_extension {
     STARSHACKLE_EXTENSION_NONE = 0, /* every other class */
     STARSHACKLE_EXTENSION_UXTW = 1, /* with zeros */
@@ -80,7 +93,7 @@ enum starshackle_extension {
 /* Entries of `fields`: a store as its word names it. An entry for a field that the class lacks is 0. */
 enum starshackle_field {
     STARSHACKLE_FIELD_CLASS = 0,
-    STARSHACKLE_FIELD_INDEX = 1,     /* Zm in classes 1..7; Rm in 8, 9 and 12 */
+    STARSHACKLE_FIELD_INDEX = 1,     /* Zm in classes 1..7 and 13..24; Rm in 8, 9 and 12 */
     STARSHACKLE_FIELD_EXTENSION = 2,
     STARSHACKLE_FIELD_PREDICATE = 3, /* Pg; in classes 8..11 the counter's register less 8 */
     STARSHACKLE_FIELD_BASE = 4,      /* Rn, 31 for SP; in class 12 Zn */

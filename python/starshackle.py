@@ -72,7 +72,7 @@ class Verdict(IntEnum):
     REGISTERS = 2  # z has other than 32 * vb bytes, or p other than 2 * vb
     WINDOW = 3  # the window is longer than LARGEST_WINDOW, or passes 2**64
     UNDEFINED = 4  # the word is of no class, or its flag is off
-    ILLEGAL = 5  # classes 1 to 7 and 12: streaming on and FA64 off; 8 to 11: streaming off
+    ILLEGAL = 5  # classes 1 to 7 and 12 to 24: streaming on and FA64 off; 8 to 11: streaming off
     STACK = 6  # SP is the base, is checked, and isn't a multiple of 16
     FAULT = 7  # an active element has a byte outside the window
     NO_ROOM = 8  # the patch buffer is shorter than the patch
@@ -94,7 +94,7 @@ class Flags(IntFlag):
 
 
 class Extension(IntEnum):
-    """How a 32-bit offset becomes a 64-bit one, in classes 1, 2, 5 and 6."""
+    """How a 32-bit offset becomes a 64-bit one, in classes 1, 2, 5, 6, 13, 14, 17 to 20, 23 and 24."""
 
     NONE = 0
     UXTW = 1

@@ -209,6 +209,11 @@ static uint64_t encode_with(size_t entry, uint64_t value)
 
 static void words(void)
 {
+    /* beside the classes: scaled bytes, doublewords in elements of 32 bits, 64-bit offsets with bits 22..21 as 10 and 11 */
+    static const uint32_t beside[17] = {0xE4208000, 0xE420C000, 0xE420A000, 0xE4608000, 0xE460C000, 0xE5C08000,
+                                        0xE5C0C000, 0xE5E08000, 0xE5E0C000, 0xE440A000, 0xE460A000, 0xE4C0A000,
+                                        0xE4E0A000, 0xE540A000, 0xE560A000, 0xE5C0A000, 0xE5E0A000};
+    size_t i;
     WORD_IS(0xE5A08000, STARSHACKLE_CLASS_ST1D_32_UNPACKED_SCALED, 0, STARSHACKLE_EXTENSION_UXTW, 0, 0, 0, 0);
     WORD_IS(0xE5A0C000, STARSHACKLE_CLASS_ST1D_32_UNPACKED_SCALED, 0, STARSHACKLE_EXTENSION_SXTW, 0, 0, 0, 0);
     WORD_IS(0xE5808000, STARSHACKLE_CLASS_ST1D_32_UNPACKED_UNSCALED, 0, STARSHACKLE_EXTENSION_UXTW, 0, 0, 0, 0);
@@ -222,12 +227,27 @@ static void words(void)
     WORD_IS(0xA1606000, STARSHACKLE_CLASS_ST1D_STRIDED_TWO_IMMEDIATE, 0, 0, 0, 0, 0, 0);
     WORD_IS(0xA160E000, STARSHACKLE_CLASS_ST1D_STRIDED_FOUR_IMMEDIATE, 0, 0, 0, 0, 0, 0);
     WORD_IS(0xE4202000, STARSHACKLE_CLASS_ST1Q, 0, 0, 0, 0, 0, 0);
+    WORD_IS(0xE4A08000, STARSHACKLE_CLASS_ST1H_32_UNPACKED_SCALED, 0, 1, 0, 0, 0, 0);
+    WORD_IS(0xE4808000, STARSHACKLE_CLASS_ST1H_32_UNPACKED_UNSCALED, 0, 1, 0, 0, 0, 0);
+    WORD_IS(0xE4A0A000, STARSHACKLE_CLASS_ST1H_64_SCALED, 0, 0, 0, 0, 0, 0);
+    WORD_IS(0xE480A000, STARSHACKLE_CLASS_ST1H_64_UNSCALED, 0, 0, 0, 0, 0, 0);
+    WORD_IS(0xE4E08000, STARSHACKLE_CLASS_ST1H_32_SCALED, 0, 1, 0, 0, 0, 0);
+    WORD_IS(0xE4C08000, STARSHACKLE_CLASS_ST1H_32_UNSCALED, 0, 1, 0, 0, 0, 0);
+    WORD_IS(0xE5208000, STARSHACKLE_CLASS_ST1W_32_UNPACKED_SCALED, 0, 1, 0, 0, 0, 0);
+    WORD_IS(0xE5008000, STARSHACKLE_CLASS_ST1W_32_UNPACKED_UNSCALED, 0, 1, 0, 0, 0, 0);
+    WORD_IS(0xE520A000, STARSHACKLE_CLASS_ST1W_64_SCALED, 0, 0, 0, 0, 0, 0);
+    WORD_IS(0xE500A000, STARSHACKLE_CLASS_ST1W_64_UNSCALED, 0, 0, 0, 0, 0, 0);
+    WORD_IS(0xE5608000, STARSHACKLE_CLASS_ST1W_32_SCALED, 0, 1, 0, 0, 0, 0);
+    WORD_IS(0xE5408000, STARSHACKLE_CLASS_ST1W_32_UNSCALED, 0, 1, 0, 0, 0, 0);
     /* every field at its largest, and all of them different where they can be */
     WORD_IS(0xE5BFDFFF, 1, 31, 2, 7, 31, 31, 0);
     WORD_IS(0xE44380C5, 6, 3, 1, 0, 6, 5, 0);
     WORD_IS(0xA12A6C97, 8, 10, 0, 3, 4, 23, 0);
     WORD_IS(0xA13FFFF3, 9, 31, 0, 7, 31, 19, 0);
     WORD_IS(0xE4363D22, 12, 22, 0, 7, 9, 2, 0);
+    WORD_IS(0xE4FFDFFF, 17, 31, 2, 7, 31, 31, 0);
+    WORD_IS(0xE49ABC85, 16, 26, 0, 7, 4, 5, 0);
+    WORD_IS(0xE54380C5, 24, 3, 1, 0, 6, 5, 0);
     /* document 01's cases */
     WORD_IS(0xA16F6000, 10, 0, 0, 0, 0, 0, -2);
     WORD_IS(0xA168E000, 11, 0, 0, 0, 0, 0, -32);
@@ -235,13 +255,14 @@ static void words(void)
     WORD_IS(0xA1206010, 8, 0, 0, 0, 0, 16, 0);
     undefined(__LINE__, 0xA120E004);
     undefined(__LINE__, 0xA1206008);
-    undefined(__LINE__, 0xE4208000);
+    for (i = 0; i < 17; i++)
+        undefined(__LINE__, beside[i]);
     undefined(__LINE__, 0);
     undefined(__LINE__, 0xFFFFFFFF);
 
     ANSWERS(encode_with(0, 10), STARSHACKLE_DONE, 0, 0, 0, 0, 0xA16F6000);
     REFUSED(encode_with(0, 0), STARSHACKLE_FIELDS);
-    REFUSED(encode_with(0, 13), STARSHACKLE_FIELDS);
+    REFUSED(encode_with(0, 25), STARSHACKLE_FIELDS);
     REFUSED(encode_with(0, UINT64_C(10) + 256), STARSHACKLE_FIELDS);
     REFUSED(encode_with(0, (UINT64_C(1) << 32) + 10), STARSHACKLE_FIELDS);
     REFUSED(encode_with(1, 1), STARSHACKLE_FIELDS); /* a field that the class lacks */
@@ -495,6 +516,61 @@ static void quadword(void)
     CHECK(untouched());
 }
 
+/* Halfwords out of words, at scaled offsets with a sign; and words out of doublewords, at scaled offsets past 2^64. */
+static void narrow(void)
+{
+    const uint32_t halfwords = 0xE4E2C001; /* st1h { z1.s }, p0, [x0, z2.s, sxtw #1] */
+    const uint32_t words = 0xE522A001;     /* st1w { z1.d }, p0, [x0, z2.d, lsl #2] */
+    const uint64_t sve = STARSHACKLE_FLAG_SVE, streaming = STARSHACKLE_FLAG_STREAMING;
+    static const uint64_t signed_offsets[4] = {0, 1, UINT64_C(0xFFFFFFFF), 3};
+    static const uint64_t offsets[4] = {0, UINT64_C(0x4000000000000001), UINT64_C(0xFFFFFFFFFFFFFFFE), 3};
+    static const uint64_t places[4] = {0, 1, (uint64_t)-1, 3}, word_places[4] = {0, 1, (uint64_t)-2, 3};
+    size_t e, k;
+
+    WORD_IS(halfwords, STARSHACKLE_CLASS_ST1H_32_SCALED, 2, STARSHACKLE_EXTENSION_SXTW, 0, 0, 1, 0);
+    machine(16, sve, 0x0FF8, 16);
+    m.x[0] = 0x1000;
+    all_active();
+    for (e = 0; e < 4; e++) {
+        set_z(1, e, 4, 0xDEAD1110 + e);
+        set_z(2, e, 4, signed_offsets[e]);
+    }
+    for (e = 0; e < 4; e++)
+        ANSWERS(element(halfwords, e), STARSHACKLE_DONE, 1, 0x1000 + 2 * places[e], 16 + 4 * e, 2, 4);
+    STORES(store(halfwords, MOST_PATCH), STARSHACKLE_DONE, 0, 0, 4, 8, 12 + 6 + 12 + 2 + 4, 3);
+    for (e = 0; e < 4; e++) {
+        expect_memory((size_t)(8 + 2 * places[e]), (uint8_t)(0x10 + e));
+        expect_memory((size_t)(8 + 2 * places[e] + 1), 0x11);
+    }
+    fill();
+    m.flags = sve | streaming;
+    STORE_REFUSED(store(halfwords, MOST_PATCH), STARSHACKLE_ILLEGAL);
+    m.flags = STARSHACKLE_FLAG_SME2 | STARSHACKLE_FLAG_SVE2P1;
+    STORE_REFUSED(store(halfwords, MOST_PATCH), STARSHACKLE_UNDEFINED);
+    CHECK(untouched());
+
+    WORD_IS(words, STARSHACKLE_CLASS_ST1W_64_SCALED, 2, STARSHACKLE_EXTENSION_NONE, 0, 0, 1, 0);
+    machine(32, sve | streaming | STARSHACKLE_FLAG_FA64, 0x0FF0, 32);
+    m.x[0] = 0x1000;
+    all_active();
+    for (e = 0; e < 4; e++) {
+        set_z(1, e, 8, UINT64_C(0xDEADDEAD11111110) + e);
+        set_z(2, e, 8, offsets[e]);
+    }
+    for (e = 0; e < 4; e++)
+        ANSWERS(element(words, e), STARSHACKLE_DONE, 1, 0x1000 + 4 * word_places[e], 32 + 8 * e, 4, 4);
+    STORES(store(words, MOST_PATCH), STARSHACKLE_DONE, 0, 0, 4, 16, 12 + 4 + 12 + 8 + 12 + 4 + 4, 3);
+    for (e = 0; e < 4; e++) {
+        expect_memory((size_t)(16 + 4 * word_places[e]), (uint8_t)(0x10 + e));
+        for (k = 1; k < 4; k++)
+            expect_memory((size_t)(16 + 4 * word_places[e] + k), 0x11);
+    }
+    fill();
+    m.length = 31;
+    STORES(store(words, MOST_PATCH), STARSHACKLE_FAULT, 3, 0x100F, 0, 0, 0, 0);
+    CHECK(untouched());
+}
+
 /* No patch of a store is longer than STARSHACKLE_LARGEST_STORE_PATCH: four registers at VB 256 reach it. */
 static void largest(void)
 {
@@ -529,7 +605,10 @@ static void largest(void)
 /* Puts the offset of an element of `esize` bytes, in class 12 its address, into Z2. */
 static void element_at(size_t esize, size_t e, uint64_t offset)
 {
-    set_z(2, e * esize / 8, 8, offset);
+    if (esize < 8)
+        set_z(2, e, esize, offset);
+    else
+        set_z(2, e * esize / 8, 8, offset);
 }
 
 static void set_active(size_t esize, size_t e, int active)
@@ -592,6 +671,10 @@ static void steps(void)
     for (i = 0; i < 5; i++) {
         whole_register(lengths[i], 0xE582A001, 8, 8);          /* st1d { z1.d }, p0, [x0, z2.d] */
         whole_register(lengths[i], 0xE402A001, 8, 1);          /* st1b { z1.d }, p0, [x0, z2.d] */
+        whole_register(lengths[i], 0xE482A001, 8, 2);          /* st1h { z1.d }, p0, [x0, z2.d] */
+        whole_register(lengths[i], 0xE4C28001, 4, 2);          /* st1h { z1.s }, p0, [x0, z2.s, uxtw] */
+        whole_register(lengths[i], 0xE502A001, 8, 4);          /* st1w { z1.d }, p0, [x0, z2.d] */
+        whole_register(lengths[i], 0xE5428001, 4, 4);          /* st1w { z1.s }, p0, [x0, z2.s, uxtw] */
         whole_register(lengths[i], 0xE43F2041, 16, 16);        /* st1q { z1.q }, p0, [z2.d] */
         whole_registers(lengths[i], 0xA120E000 | 31 << 16, 4); /* st1d { z0.d, z4.d, z8.d, z12.d }, pn8, [x0] */
         whole_registers(lengths[i], 0xA1606000, 2);            /* st1d { z0.d, z8.d }, pn8, [x0] */
@@ -714,6 +797,8 @@ static void refusals(void)
 /* ---- the byte that a fault names */
 
 static const uint32_t ST1B = 0xE402A001;    /* st1b { z1.d }, p0, [x0, z2.d] */
+static const uint32_t ST1H = 0xE4C28001;    /* st1h { z1.s }, p0, [x0, z2.s, uxtw] */
+static const uint32_t ST1W = 0xE502A001;    /* st1w { z1.d }, p0, [x0, z2.d] */
 static const uint32_t ST1D = 0xE582A001;    /* st1d { z1.d }, p0, [x0, z2.d] */
 static const uint32_t STRIDED = 0xA1606000; /* st1d { z0.d, z8.d }, pn8, [x0] */
 static const uint32_t ST1Q = 0xE43F2041;    /* st1q { z1.q }, p0, [z2.d] */
@@ -767,8 +852,8 @@ static void every_place(uint32_t word, uint64_t size)
 
 static void faults(void)
 {
-    const uint32_t words[4] = {ST1B, ST1D, STRIDED, ST1Q};
-    static const uint64_t sizes[4] = {1, 8, 8, 16};
+    const uint32_t words[6] = {ST1B, ST1H, ST1W, ST1D, STRIDED, ST1Q};
+    static const uint64_t sizes[6] = {1, 2, 4, 8, 8, 16};
     const uint64_t top = UINT64_C(0xFFFFFFFFFFFFFFF0);
     uint64_t k;
     size_t i;
@@ -776,7 +861,7 @@ static void faults(void)
     /* document 02 (ii): a doubleword at FFFFFFFFFFFFFFFCh over a 16-byte window ending at 2^64 */
     FAULT_AT(ST1D, UINT64_C(0xFFFFFFFFFFFFFFFC), top, 16, 0);
     FAULT_AT(STRIDED, UINT64_C(0xFFFFFFFFFFFFFFFC), top, 16, 0);
-    for (i = 0; i < 4; i++) {
+    for (i = 0; i < 6; i++) {
         FAULT_AT(words[i], 0x1000 - sizes[i], 0x1000, 64, 0x1000 - sizes[i]); /* below the window */
         FAULT_AT(words[i], 0x1040, 0x1000, 64, 0x1040);                       /* behind it */
         FAULT_AT(words[i], 64, 0, 64, 64);
@@ -927,6 +1012,7 @@ int main(void)
     strided();
     counters();
     quadword();
+    narrow();
     largest();
     steps();
     refusals();

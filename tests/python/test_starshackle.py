@@ -17,7 +17,11 @@ STRIDED = 0xA1606000  # st1d { z0.d, z8.d }, pn8, [x0]
 QUADWORD = 0xE4232041  # st1q { z1.q }, p0, [z2.d, x3]
 EXAMPLE = bytes.fromhex("5052 0010000000000000 0200 a1a3 5052 0510000000000000 0100 a4 5045 0200")
 BASES = [0xE5A08000, 0xE5808000, 0xE5A0A000, 0xE580A000, 0xE4008000, 0xE4408000, 0xE400A000, 0xA1206000, 0xA120E000, 0xA1606000,
-         0xA160E000, 0xE4202000]
+         0xA160E000, 0xE4202000, 0xE4A08000, 0xE4808000, 0xE4A0A000, 0xE480A000, 0xE4E08000, 0xE4C08000, 0xE5208000, 0xE5008000,
+         0xE520A000, 0xE500A000, 0xE5608000, 0xE5408000]
+# scaled bytes, doublewords in elements of 32 bits, and 64-bit offsets with bits 22..21 as 10 and 11
+BESIDE = [0xE4208000, 0xE420C000, 0xE420A000, 0xE4608000, 0xE460C000, 0xE5C08000, 0xE5C0C000, 0xE5E08000, 0xE5E0C000, 0xE440A000,
+          0xE460A000, 0xE4C0A000, 0xE4E0A000, 0xE540A000, 0xE560A000, 0xE5C0A000, 0xE5E0A000]
 
 
 def scatter(offsets=(0, 1, 1, 5), data=(0xA1, 0xA2, 0xA3, 0xA4)):
@@ -40,6 +44,9 @@ class Words(unittest.TestCase):
             0xA16F6000: Store(10, multiple=-2),
             0xA168E000: Store(11, multiple=-32),
             0xE4363D22: Store(12, 22, 0, 7, 9, 2),
+            0xE49ABC85: Store(16, 26, 0, 7, 4, 5),
+            0xE4E1C000: Store(17, 1, Extension.SXTW),
+            0xE54380C5: Store(24, 3, Extension.UXTW, 0, 6, 5),
         }
         for word, store in cases.items():
             self.assertEqual(decode(word), Decoded(Verdict.DONE, store))
@@ -51,11 +58,11 @@ class Words(unittest.TestCase):
             self.assertEqual(decode(word).store.class_, class_)
 
     def test_undefined(self):
-        for word in [0xA120E004, 0xA1206008, 0xE4208000, 0, 0xFFFFFFFF]:
+        for word in [0xA120E004, 0xA1206008, *BESIDE, 0, 0xFFFFFFFF]:
             self.assertEqual(decode(word), Decoded(Verdict.UNDEFINED, None))
 
     def test_refused_fields(self):
-        stores = [Store(0), Store(13), Store(2**32 + 3), Store(2**64 - 1), Store(3, index=32), Store(3, index=2**32),
+        stores = [Store(0), Store(25), Store(13), Store(16, extension=1), Store(2**32 + 3), Store(2**64 - 1), Store(3, index=32), Store(3, index=2**32),
                   Store(3, extension=1), Store(1), Store(1, extension=3), Store(10, index=1), Store(10, register=8),
                   Store(10, multiple=1), Store(10, multiple=16), Store(10, multiple=-2**63), Store(3, multiple=1)]
         for store in stores:
@@ -131,11 +138,37 @@ class Counters(unittest.TestCase):
                     self.assertEqual(self.active(vb, 1 << bit | 1 << highest | size, 0xA160E000), half)
 
 
+class Narrow(unittest.TestCase):
+    """Halfwords and words: only the low part of an element is written."""
+
+    def test_halfwords(self):
+        machine = scatter((0, 1, 2**32 - 1, 3), (0xDEAD1111, 0xDEAD2222, 0xDEAD3333, 0xDEAD4444))
+        memory, patch = bytearray(b"\x77" * 16), bytearray(LARGEST_STORE_PATCH)
+        word = 0xE4E2C001  # st1h { z1.s }, p0, [x0, z2.s, sxtw #1]
+        self.assertEqual(store(machine, 0xFF8, memory, word, patch), Stored(Verdict.DONE, 0, 0, 4, 8, 36, 3))
+        self.assertEqual(memory.hex(), "77" * 6 + "333311112222" + "7777" + "4444")
+        self.assertEqual([element(machine, word, e).address for e in range(4)], [0x1000, 0x1002, 0xFFE, 0x1006])
+        word ^= 1 << 14  # uxtw
+        self.assertEqual(store(machine, 0xFF8, memory, word, patch), Stored(Verdict.FAULT, 2, 0x200000FFE, 0, 0, 0, 0))
+
+    def test_words(self):
+        machine = Machine(vb=32, flags=Flags.SVE | Flags.STREAMING | Flags.FA64, p=b"\xff" * 64)
+        machine.x[0] = 0x1000
+        machine.z[32:64] = struct.pack("<4Q", *(0xDEADDEAD00000000 | 0x11111111 * k for k in range(1, 5)))
+        machine.z[64:96] = struct.pack("<4Q", 0, 0x4000000000000001, 2**64 - 2, 3)
+        memory, patch = bytearray(b"\x77" * 32), bytearray(LARGEST_STORE_PATCH)
+        word = 0xE522A001  # st1w { z1.d }, p0, [x0, z2.d, lsl #2]
+        self.assertEqual(store(machine, 0xFF0, memory, word, patch), Stored(Verdict.DONE, 0, 0, 4, 16, 56, 3))
+        self.assertEqual(memory.hex(), "77" * 8 + "33" * 4 + "77" * 4 + "11" * 4 + "22" * 4 + "77" * 4 + "44" * 4)
+
+
 class Steps(unittest.TestCase):
     """How many active elements don't start where the active one before them ends."""
 
     # by class: a word, an element's bytes in its register, the bytes that it writes
-    CLASSES = {4: (0xE580A000 | 2 << 16 | 1, 8, 8), 7: (0xE400A000 | 2 << 16 | 1, 8, 1), 12: (0xE4202000 | 31 << 16 | 2 << 5 | 1, 16, 16)}
+    CLASSES = {4: (0xE580A000 | 2 << 16 | 1, 8, 8), 7: (0xE400A000 | 2 << 16 | 1, 8, 1), 12: (0xE4202000 | 31 << 16 | 2 << 5 | 1, 16, 16),
+               16: (0xE480A000 | 2 << 16 | 1, 8, 2), 18: (0xE4C08000 | 2 << 16 | 1, 4, 2), 22: (0xE500A000 | 2 << 16 | 1, 8, 4),
+               24: (0xE5408000 | 2 << 16 | 1, 4, 4)}
 
     def steps(self, class_, vb, offsets, inactive=()):
         """The steps of a store of VB bytes whose elements lie at these offsets from 1000h."""
@@ -143,9 +176,10 @@ class Steps(unittest.TestCase):
         machine = Machine(vb=vb, flags=Flags.SVE | Flags.SVE2P1, p=bytearray(b"\xff" * (2 * vb)))
         machine.x[0] = 0 if class_ == 12 else 0x1000
         for e, offset in enumerate(offsets):
-            struct.pack_into("<Q", machine.z, 2 * vb + e * esize, offset + (0x1000 if class_ == 12 else 0))
+            number = "<Q" if esize >= 8 else "<I"
+            struct.pack_into(number, machine.z, 2 * vb + e * esize, offset + (0x1000 if class_ == 12 else 0))
         for e in inactive:
-            machine.p[e * esize // 8] &= 0xFE
+            machine.p[e * esize // 8] &= 0xFF ^ 1 << e * esize % 8
         stored = store(machine, 0x1000, bytearray(4096), word, bytearray(LARGEST_STORE_PATCH))
         self.assertTrue(stored.done)
         self.assertEqual(stored.elements, len(offsets) - len(inactive))
@@ -209,13 +243,16 @@ class Refusals(unittest.TestCase):
 
     def test_undefined(self):
         every = (1 << 64) - 1
-        self.check(scatter(), 0xE4208000, Verdict.UNDEFINED)
-        for word, flag in [(SCATTER, Flags.SVE), (STRIDED, Flags.SME2), (QUADWORD, Flags.SVE2P1)]:
+        for word in BESIDE:
+            self.check(scatter(), word, Verdict.UNDEFINED)
+        narrow = [(word, Flags.SVE) for word in BASES[12:]]
+        for word, flag in [(SCATTER, Flags.SVE), (STRIDED, Flags.SME2), (QUADWORD, Flags.SVE2P1), *narrow]:
             self.check(Machine(flags=every ^ flag), word, Verdict.UNDEFINED)
         self.assertEqual(element(scatter(), 0xE4208000, 0), Element(Verdict.UNDEFINED, False, 0, 0, 0, 0))
 
     def test_illegal(self):
-        self.check(Machine(flags=Flags.SVE | Flags.STREAMING), SCATTER, Verdict.ILLEGAL)
+        for word in [SCATTER, *BASES[12:]]:
+            self.check(Machine(flags=Flags.SVE | Flags.STREAMING), word, Verdict.ILLEGAL)
         self.check(Machine(flags=Flags.SVE2P1 | Flags.STREAMING), QUADWORD, Verdict.ILLEGAL)
         self.check(Machine(flags=Flags.SME2 | Flags.FA64), STRIDED, Verdict.ILLEGAL)
 
@@ -235,7 +272,8 @@ class Refusals(unittest.TestCase):
         self.check(scatter(), SCATTER, Verdict.FAULT, (3, 0x1005), length=5, room=0)  # before what is said of the room
 
     # by word: where element 0's address is given, and its bytes
-    FAULTS = {0xE402A001: ("x", 1), 0xE582A001: ("x", 8), STRIDED: ("x", 8), 0xE43F2041: ("z", 16)}
+    FAULTS = {0xE402A001: ("x", 1), 0xE4C28001: ("x", 2), 0xE502A001: ("x", 4), 0xE582A001: ("x", 8), STRIDED: ("x", 8),
+              0xE43F2041: ("z", 16)}
 
     def fault(self, word, first, base, length, address):
         """Element 0 alone, which lies at `first`, faults at this address, and keeps its first one; None where it is done."""
@@ -506,7 +544,7 @@ class Random(unittest.TestCase):
             return 0xE4202000 | chosen.choice([31, 31, 3]) << 16 | word & 0x1C00 | word & 3
         if class_ in (10, 11):
             return word | chosen.choice([0, 0, 1, 15, 8]) << 16
-        return word | chosen.choice([1, 1, 2, 3, 31] if class_ > 7 else [1, 2]) << 16
+        return word | chosen.choice([1, 1, 2, 3, 31] if class_ in (8, 9) else [1, 2]) << 16
 
     def other_filling(self, machine, base, length, word, stored, writes):
         """A done store over another filling of its window, in buffers one byte too short and just long enough."""
@@ -524,8 +562,8 @@ class Random(unittest.TestCase):
 
     def test_stores(self):
         counts = dict.fromkeys(list(Verdict)[:9], 0)
-        classes = dict.fromkeys(range(1, 13), 0)
-        for _ in range(2000):
+        classes = dict.fromkeys(range(1, 25), 0)
+        for _ in range(4000):
             length = self.random.choice([0, 64, 3000, 3000, LARGEST_WINDOW])
             base = self.random.choice([0x10000, 0x10000, 2**64 - max(length, 1)])
             machine, word = self.machine(base, length), self.word()

@@ -13,7 +13,7 @@ use Rattle.encoding.specs.declared.Store.the-variants.{Scatter, Strided, Quadwo
 use Rattle.elements.specs.Machine.{Machine}
 use Rattle.elements.specs.Counter.{counterOf}
 use Rattle.elements.specs.Stores.{stepOf, perRegister, strideOf}
-use Rattle.elements.specs.Accesses.{VectorSound, StridedSound, scatterAccess, quadwordAccess, stridedAccess}
+use Rattle.elements.specs.Accesses.{isWidth, VectorSound, StridedSound, scatterAccess, quadwordAccess, stridedAccess}
 use Rattle.elements.proofs.Numbers.{per-is}
 use Rattle.elements.proofs.Shapes.{ScatterIn, QuadwordIn, StridedIn}
 use Rattle.accesses.proofs.Masks.{range-order, range-most}
@@ -43,6 +43,7 @@ module _ (m : Machine) (low : 16 ≤ m .vb) (high : m .vb ≤ 256) (sixteen : m 
         size = s .small .size .1;
         steps = s .steps;
         wide = s .small .step .1;
+        width = s .width;
         doubleword = λ q. eight-step (stepOf (classFor (Scatter f))) (s .eight-or-four) (omega (arith, s .small .size .1));
         whole = per-whole m (classFor (Scatter f)) (s .eight);
         low = low;
@@ -63,6 +64,7 @@ module _ (m : Machine) (low : 16 ≤ m .vb) (high : m .vb ≤ 256) (sixteen : m 
         size = s .small .size .1;
         steps = inr (s .sixteen);
         wide = s .small .step .1;
+        width = ap isWidth (s .whole);
         doubleword = λ q. absurd (omega (arith, s .whole));
         whole = per-whole m (classFor (Quadword f)) (s .eight);
         low = low;

@@ -82,7 +82,7 @@ fn copy_at(out: &mut [u8], at: usize, memory: &[u8], p: usize, n: usize)
         move8(out, to - 8, memory, q - 8);
         return;
     }
-    endian::copy(&mut out[at..to], &memory[p..q]);
+    endian::copy_any(&mut out[at..to], &memory[p..q]);
 }
 
 // The run from offset a up to b: head and payload.

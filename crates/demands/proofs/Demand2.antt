@@ -2,7 +2,7 @@
 use mathlib.Core.Path.{_≡_, refl}
 use mathlib.Core.List.{[], _∷_}
 use Rattle.encoding.specs.Classes.{classes}
-use Rattle.encoding.proofs.Statements.{decodes-its-class, undefined-outside, one-class-only, refused-for-a-cause}
+use Rattle.encoding.proofs.Statements.{decodes-its-class, undefined-outside, one-class-only, scatter-widths, refused-for-a-cause}
 use Rattle.encoding.proofs.Statements.{encodes-decoded, decodes-encoded}
 use Rattle.encoding.proofs.Numbers.{numbers-from-bits}
 use Rattle.codec.proofs.Statements.{encodes-decoded-numbers, decodes-encoded-numbers, refuses-numbers}
@@ -36,7 +36,8 @@ pub demand2 : Demand2
 unfolding classes
 demand2 =
     record {
-      twelve = refl;
+      twenty-four = refl;
+      scatter-widths = scatter-widths;
       accepts = decodes-its-class;
       no-others = undefined-outside;
       one-class = one-class-only;

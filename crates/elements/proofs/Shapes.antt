@@ -24,14 +24,14 @@ use Rattle.encoding.specs.declared.StridedFields.{StridedFields}
 use Rattle.encoding.specs.declared.QuadwordFields.{QuadwordFields}
 use Rattle.encoding.specs.declared.Store.{Store}
 use Rattle.encoding.specs.declared.Store.the-variants.{Scatter, Strided, Quadword}
-use Rattle.encoding.proofs.Tests.{every, every-at}
+use Rattle.encoding.proofs.Tests.{every, every-at, yes}
 use Rattle.encoding.proofs.Rows.{Small, small-at, row-holds}
 use Rattle.encoding.proofs.Causes.{fits, in-range, is-named, is-extended}
 use Rattle.encoding.proofs.Inverse.{named-parts}
 use Rattle.encoding.proofs.Signed.{multiple-imm, multiple-low, multiple-high}
 use Rattle.encoding.proofs.Statements.{accepted}
 use Rattle.elements.specs.Stores.{stepOf, sizeOf, strideOf}
-use Rattle.elements.specs.Accesses.{offsetBytes, otherStep}
+use Rattle.elements.specs.Accesses.{offsetBytes, otherStep, isWidth}
 
 -- ---- the classes of a feature
 
@@ -42,6 +42,7 @@ shape SVE c =
     ∷ eqb (c .nreg) 1
     ∷ (eqb (stepOf c) 8 || eqb (stepOf c) 4)
     ∷ (has c xs || eqb (stepOf c) 8)
+    ∷ isWidth (sizeOf c)
     ∷ []
 shape SME2 c =
     eqb (stepOf c * 8) (c .esize)
@@ -133,6 +134,7 @@ pub record ScatterIn (f : ScatterFields) (c : Class) : Type 0 where
   pub steps : (stepOf c ≡ 8) ⊎ (stepOf c ≡ otherStep (f .extension))
   pub offset : offsetBytes (f .extension) ≤ stepOf c
   pub none : f .extension ≡ None → stepOf c ≡ 8
+  pub width : isWidth (sizeOf c) ≡ true
 
 pub scatter-in : (f : ScatterFields) → refused (Scatter f) ≡ false → ScatterIn f (classFor (Scatter f))
 unfolding shape
@@ -160,6 +162,7 @@ scatter-in f r₀ =
       eight-or-four = e;
       steps = step-by (f .extension) (stepOf c) w e;
       none = w;
+      width = yes (isWidth (sizeOf c)) (t 4 (lit< tt));
     }
 
 pub record QuadwordIn (f : QuadwordFields) (c : Class) : Type 0 where

@@ -1,6 +1,6 @@
 -- A store's numbers, decided once before its elements are walked. For the contracts of the code's own functions. Assumes nothing.
 use Prim.Native.Nat.{ℕ, zero, suc, _+_, _-_, _*_, _/_, _%_, _^_, _≤_, _<_}
-use mathlib.Core.Bool.{Bool, cond, _&&_}
+use mathlib.Core.Bool.{Bool, true, cond, _&&_, _||_}
 use mathlib.Core.Logic.{_⊎_}
 use mathlib.Core.Path.{_≡_}
 use mathlib.Core.List.{List, [], _++_}
@@ -159,6 +159,10 @@ otherStep Uxtw = 4
 otherStep Sxtw = 4
 
 -- what holds of an access on a machine with registers of vb bytes
+-- how many bytes an element can have in memory
+abbrev pub isWidth : ℕ → Bool
+isWidth n = eqb n 8 || (eqb n 1 || (eqb n 16 || (eqb n 4 || eqb n 2)))
+
 pub record VectorSound (v : VectorAccess) (vb : ℕ) : Type 0 where
   pub scale : v .scale < 64
   pub offset : offsetBytes (v .extension) ≤ v .step
@@ -166,6 +170,7 @@ pub record VectorSound (v : VectorAccess) (vb : ℕ) : Type 0 where
   pub size : v .size ≤ v .step
   pub steps : (v .step ≡ 8) ⊎ (v .step ≡ otherStep (v .extension))
   pub wide : v .step ≤ 16
+  pub width : isWidth (v .size) ≡ true
   pub doubleword : v .size ≡ 8 → v .step ≡ 8
   pub whole : v .count * v .step ≤ vb
   pub low : 16 ≤ vb

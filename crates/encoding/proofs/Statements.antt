@@ -2,7 +2,7 @@
 use mathlib.Core.Path.{_≡_, refl, sym, ap, _∙_, subst}
 use mathlib.Core.Bool.{Bool, true, false, not, cond, _||_}
 use mathlib.Core.Logic.{_⊎_, inl, inr}
-use Prim.Native.Nat.{ℕ, suc, _+_, _^_, _<_}
+use Prim.Native.Nat.{ℕ, zero, suc, _+_, _^_, _<_}
 use native.Mathlib.Omega.{arith}
 use lib.Dec.{T, ltb, ltb→lt, lt→ltb}
 use lib.ListN.{length}
@@ -14,7 +14,7 @@ use Rattle.encoding.specs.Encoding.{numberOf, featureOf, rowNumbered, cl
 use Rattle.encoding.specs.Encoding.{lacked, unnamed, misextended, refused, placed, valuesIn, encodeOf}
 use Rattle.encoding.specs.Answers.{decodedNumber, encodedNumber}
 use Rattle.encoding.specs.Statements.{DecodesItsClass, UndefinedOutside, OneClass, MaskIsMembership, RefusedForACause}
-use Rattle.encoding.specs.Statements.{EncodesDecoded, DecodesEncoded}
+use Rattle.encoding.specs.Statements.{EncodesDecoded, DecodesEncoded, ScatterWidths}
 use Rattle.encoding.specs.declared.Store.{Store}
 use Rattle.encoding.specs.declared.Decoded.{Decoded}
 use Rattle.encoding.specs.declared.Decoded.the-variants.{Known, Undefined}
@@ -84,6 +84,13 @@ undefined-outside w = (
 
 pub one-class-only : OneClass
 one-class-only w j k hj hk s t = one-class w j k hj hk (holds s) (holds t)
+
+pub scatter-widths : ScatterWidths
+unfolding classes classAt
+scatter-widths zero l h = absurd (omega (arith, l))
+scatter-widths (suc zero) l h = refl
+scatter-widths (suc (suc zero)) l h = refl
+scatter-widths (suc (suc (suc w))) l h = absurd (omega (arith, h))
 
 pub mask-is-membership : MaskIsMembership
 mask-is-membership k w h l = ((λ e. yes (belongs (classAt k) w) (masked k h w e)), (λ b. unmasked k h w l (holds b)))

@@ -64,8 +64,8 @@ index Zt2 = 11
 
 -- ---- the table
 
--- a class's feature is the flag that it needs (document 01, verdict 4): "SVE for 1..7, SME2 for 8..11, SVE2p1 for 12". Its number
--- among the flags, in document 01's order, by which two are compared:
+-- a class's feature is the flag that it needs (document 01, verdict 4): "SVE for 1..7, SME2 for 8..11, SVE2p1 for 12"; of 13 to 24
+-- (document 02 (i)): "All need the SVE flag". Its number among the flags, in document 01's order, by which two are compared:
 abbrev pub flag : Feature → ℕ
 flag SVE = 0
 flag SME2 = 1
@@ -85,7 +85,10 @@ abbrev pub class : ℕ → ℕ → List Field → ℕ → ℕ → ℕ → ℕ �
 class n b fs e m s r x = record { number = n; base = b; fields = fs; esize = e; msize = m; scale = s; nreg = r; feature = x }
 
 -- Document 01's table, line by line: number, base word, fields, esize, msize, scale, number of registers, feature. The scale is
--- "3 in classes 1 and 3, otherwise 0" for classes 1 to 7; strided stores scale X[m] by 8, which is 3 too.
+-- "3 in classes 1 and 3, otherwise 0" for classes 1 to 7; strided stores scale X[m] by 8, which is 3 too. Behind it document 02's (i):
+-- "Add ST1H as classes 13 to 18 and ST1W as 19 to 24, scalar plus vector, each in this order: unpacked scaled and unscaled, 64-bit
+-- scaled and unscaled, and the .S forms scaled and unscaled. They are the pattern of classes 1 to 7 with bits 24..23 as 01 or 10 and
+-- bits 22..21 as 00 (.D unscaled), 01 (.D scaled), 10 (.S unscaled), 11 (.S scaled); the scale is 1 or 2."
 unfoldable pub classes : List Class
 classes =
     class 1 0xE5A08000 (Zm ∷ xs ∷ Pg ∷ Rn ∷ Zt ∷ []) 64 64 3 1 SVE
@@ -100,6 +103,18 @@ classes =
     ∷ class 10 0xA1606000 (imm4 ∷ Pc ∷ Rn ∷ T ∷ Zt3 ∷ []) 64 64 0 2 SME2
     ∷ class 11 0xA160E000 (imm4 ∷ Pc ∷ Rn ∷ T ∷ Zt2 ∷ []) 64 64 0 4 SME2
     ∷ class 12 0xE4202000 (Rm ∷ Pg ∷ Zn ∷ Zt ∷ []) 128 128 0 1 SVE2p1
+    ∷ class 13 0xE4A08000 (Zm ∷ xs ∷ Pg ∷ Rn ∷ Zt ∷ []) 64 16 1 1 SVE
+    ∷ class 14 0xE4808000 (Zm ∷ xs ∷ Pg ∷ Rn ∷ Zt ∷ []) 64 16 0 1 SVE
+    ∷ class 15 0xE4A0A000 (Zm ∷ Pg ∷ Rn ∷ Zt ∷ []) 64 16 1 1 SVE
+    ∷ class 16 0xE480A000 (Zm ∷ Pg ∷ Rn ∷ Zt ∷ []) 64 16 0 1 SVE
+    ∷ class 17 0xE4E08000 (Zm ∷ xs ∷ Pg ∷ Rn ∷ Zt ∷ []) 32 16 1 1 SVE
+    ∷ class 18 0xE4C08000 (Zm ∷ xs ∷ Pg ∷ Rn ∷ Zt ∷ []) 32 16 0 1 SVE
+    ∷ class 19 0xE5208000 (Zm ∷ xs ∷ Pg ∷ Rn ∷ Zt ∷ []) 64 32 2 1 SVE
+    ∷ class 20 0xE5008000 (Zm ∷ xs ∷ Pg ∷ Rn ∷ Zt ∷ []) 64 32 0 1 SVE
+    ∷ class 21 0xE520A000 (Zm ∷ Pg ∷ Rn ∷ Zt ∷ []) 64 32 2 1 SVE
+    ∷ class 22 0xE500A000 (Zm ∷ Pg ∷ Rn ∷ Zt ∷ []) 64 32 0 1 SVE
+    ∷ class 23 0xE5608000 (Zm ∷ xs ∷ Pg ∷ Rn ∷ Zt ∷ []) 32 32 2 1 SVE
+    ∷ class 24 0xE5408000 (Zm ∷ xs ∷ Pg ∷ Rn ∷ Zt ∷ []) 32 32 0 1 SVE
     ∷ []
 
 -- what stands past the end of the list: no class, with no fields

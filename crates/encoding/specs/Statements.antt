@@ -1,17 +1,18 @@
 -- What is promised of decoding and encoding, beside the contracts of `decode` and `encode`. Each has its proof in
 -- proofs/Statements.antt. Assumes nothing.
-use Prim.Native.Nat.{ℕ, _+_, _-_, _*_, _/_, _%_, _^_, _<_}
+use Prim.Native.Nat.{ℕ, _+_, _-_, _*_, _/_, _%_, _^_, _≤_, _<_}
 use mathlib.Core.Bool.{true, false, cond, _||_}
 use mathlib.Core.List.{List, [], _∷_}
 use mathlib.Core.Logic.{_↔_, _⊎_}
 use mathlib.Core.Path.{_≡_}
 use lib.Bits.{bitAnd}
 use lib.Dec.{ltb}
-use lib.ListN.{length}
-use Rattle.encoding.specs.Classes.{Zm, Rm, imm4, xs, T, Zt3, Class, classes, classAt, bit, belongs, maskOf, has}
+use lib.ListN.{length, take, drop}
+use Rattle.encoding.specs.Classes.{Zm, Rm, imm4, xs, T, Zt3, Class, class, classes, classAt, bit, belongs, maskOf, has}
 use Rattle.encoding.specs.Decoding.{storeOf, decodeOf}
 use Rattle.encoding.specs.Answers.{decodedNumber, decodedNumbers, encodedNumber}
 use Rattle.encoding.specs.Encoding.{classFor, notListed, outOfRange, lacked, unnamed, misextended, encodeOf}
+use Rattle.encoding.specs.declared.Feature.the-variants.{SVE}
 use Rattle.encoding.specs.declared.Store.{Store}
 use Rattle.encoding.specs.declared.Decoded.the-variants.{Known}
 use Rattle.encoding.specs.declared.Encoded.the-variants.{Word}
@@ -29,6 +30,28 @@ UndefinedOutside = (w : ℕ) → (decodedNumber (decodeOf w) ≡ 4) ↔ ((k : �
 abbrev pub OneClass : Type 0
 OneClass =
     (w j k : ℕ) → j < length classes → k < length classes → belongs (classAt j) w ≡ true → belongs (classAt k) w ≡ true → j ≡ k
+
+-- a class of another width: bits 24..23 are w, bits 22..21 the form, and its elements in memory have 8·2^w bits; odd forms are scaled,
+-- by w
+abbrev pub atWidth : Class → ℕ → ℕ → ℕ → Class
+atWidth c n w form =
+    class n (c .base / 2 ^ 25 * 2 ^ 25 + w * 2 ^ 23 + form * 2 ^ 21 + c .base % 2 ^ 21) (c .fields) (c .esize) (8 * 2 ^ w)
+    (form % 2 * w) 1 SVE
+
+-- document 02 (i): "They are the pattern of classes 1 to 7 with bits 24..23 as 01 or 10 and bits 22..21 as 00 (.D unscaled), 01 (.D
+-- scaled), 10 (.S unscaled), 11 (.S scaled); the scale is 1 or 2." ST1H is w 1, from row 12 on, and ST1W w 2, from row 18 on. The
+-- pattern of the .S forms is class 6.
+abbrev pub ScatterWidths : Type 0
+ScatterWidths =
+    (w : ℕ) → 1 ≤ w → w ≤ 2
+    → take 6 (drop (6 + 6 * w) classes)
+    ≡ atWidth (classAt 0) (7 + 6 * w) w 1
+    ∷ atWidth (classAt 1) (8 + 6 * w) w 0
+    ∷ atWidth (classAt 2) (9 + 6 * w) w 1
+    ∷ atWidth (classAt 3) (10 + 6 * w) w 0
+    ∷ atWidth (classAt 5) (11 + 6 * w) w 3
+    ∷ atWidth (classAt 5) (12 + 6 * w) w 2
+    ∷ []
 
 -- the test by mask is the paper's membership, for every 32-bit word
 abbrev pub MaskIsMembership : Type 0

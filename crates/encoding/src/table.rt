@@ -10,7 +10,7 @@ use super::Feature;
 use super::Layout;
 use super::Number;
 
-pub const CLASSES: usize = 12;
+pub const CLASSES: usize = 24;
 
 // The fixed bits of each class, and what they are: a mask and the base word.
 const ROWS: [[u32; 2]; CLASSES] = [
@@ -26,6 +26,18 @@ const ROWS: [[u32; 2]; CLASSES] = [
     [0xFFF0E008, 0xA1606000],
     [0xFFF0E00C, 0xA160E000],
     [0xFFE0E000, 0xE4202000],
+    [0xFFE0A000, 0xE4A08000],
+    [0xFFE0A000, 0xE4808000],
+    [0xFFE0E000, 0xE4A0A000],
+    [0xFFE0E000, 0xE480A000],
+    [0xFFE0A000, 0xE4E08000],
+    [0xFFE0A000, 0xE4C08000],
+    [0xFFE0A000, 0xE5208000],
+    [0xFFE0A000, 0xE5008000],
+    [0xFFE0E000, 0xE520A000],
+    [0xFFE0E000, 0xE500A000],
+    [0xFFE0A000, 0xE5608000],
+    [0xFFE0A000, 0xE5408000],
 ];
 
 // What code needs of each class besides, by the hexadecimal digits of a number: its feature, nreg, how many bits its fields xs, Rm, imm4
@@ -43,6 +55,18 @@ const PACKED: [u64; CLASSES] = [
     0x1_2_0_0_4_3_3_3_0_0A,
     0x1_4_0_0_4_2_3_3_0_0B,
     0x2_1_0_5_0_0_4_4_0_0C,
+    0x0_1_1_0_0_0_3_1_1_0D,
+    0x0_1_1_0_0_0_3_1_0_0E,
+    0x0_1_0_0_0_0_3_1_1_0F,
+    0x0_1_0_0_0_0_3_1_0_10,
+    0x0_1_1_0_0_0_2_1_1_11,
+    0x0_1_1_0_0_0_2_1_0_12,
+    0x0_1_1_0_0_0_3_2_2_13,
+    0x0_1_1_0_0_0_3_2_0_14,
+    0x0_1_0_0_0_0_3_2_2_15,
+    0x0_1_0_0_0_0_3_2_0_16,
+    0x0_1_1_0_0_0_2_2_2_17,
+    0x0_1_1_0_0_0_2_2_0_18,
 ];
 
 // The row in the table of the class that the word belongs to; CLASSES where it belongs to none.

@@ -124,7 +124,7 @@ fn copy_long(dst: &mut [u8], src: &[u8])
 }
 
 // Any number of bytes: below sixteen, the first and the last of a width, which may overlap.
-fn copy_any(dst: &mut [u8], src: &[u8])
+pub fn copy_any(dst: &mut [u8], src: &[u8])
     requires { ⌜ length (now src) ≡ length (now dst) ⌝ }
     ensures { λ _. ⌜ now (dst .exit) ≡ now (src .entry) ⌝ }
 {
@@ -153,8 +153,8 @@ fn copy_any(dst: &mut [u8], src: &[u8])
     }
 }
 
-// All bytes of one slice into another of its length. An element's eight bytes, sixteen or one are moved where this is called; the rest is
-// called from two places, since what is called from one alone would be moved there too.
+// All bytes of one slice into another of its length. An element's bytes, 8, 16, 1, 4 or 2, are moved where this is called; the rest is
+// `copy_any`, which has a second caller in `cutting`: what is called from one place alone would be moved there too.
 pub fn copy(dst: &mut [u8], src: &[u8])
     requires { ⌜ length (now src) ≡ length (now dst) ⌝ }
     ensures { λ _. ⌜ now (dst .exit) ≡ now (src .entry) ⌝ }
@@ -172,8 +172,12 @@ pub fn copy(dst: &mut [u8], src: &[u8])
         dst[0] = src[0];
         return;
     }
-    if n < 8 {
-        copy_any(dst, src);
+    if n == 4 {
+        copy4(dst, src, 0);
+        return;
+    }
+    if n == 2 {
+        copy2(dst, src, 0);
         return;
     }
     copy_any(dst, src);

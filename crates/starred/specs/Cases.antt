@@ -1,5 +1,5 @@
--- The starred cases of document 01, 'Cases at the edges', and the examples of document 02 (ii) and (iii), in one table: each word is
--- decoded and stored on a whole machine. VB is 16.
+-- The starred cases of document 01, 'Cases at the edges', and examples of document 02's requests, in one table: each word is decoded and
+-- stored on a whole machine. VB is 16.
 -- Assumes nothing.
 use Prim.Native.Nat.{ℕ, _+_, _-_, _*_}
 use mathlib.Core.Bool.{true, false}
@@ -156,6 +156,10 @@ cases =
     ∷ case 0xA1606000 streaming (on zeros 0x18 0x04) 0x1000 32 (strided 10 (pos 0) 0) (Done 1 8 24 1) (placedAt 32 0 (take 8 (rows 0))) 1
     -- document 02 (ii): "A doubleword at FFFFFFFFFFFFFFFCh over a 16-byte window ending at 2^64 reports address 0."
     ∷ case 0xE581A000 plain (on top 0 0) 0xFFFFFFFFFFFFFFF0 16 (scatter 4 None) (Refused (Fault 0 0)) (replicate 16 0) 0
+    -- document 02 (i): "the .S forms", scaled by 2, of halfwords: offset −8 by SXTW; "The byte form has no scaled class": E4208000 above
+    ∷ case 0xE4E1C000 plain (on low 0 0) 0x0FF0 4 (scatter 17 Sxtw) (Done 1 2 18 1) (placedAt 4 0 (take 2 (rows 0))) 0
+    -- the "64-bit scaled" form of words: 2000000000000001h times 4
+    ∷ case 0xE521A000 plain (on high 0 0) 0x1004 4 (scatter 21 None) (Refused (Fault 0 0x8000000000001004)) (replicate 4 0) 0
     ∷ []
 
 -- ---- what the definitions say

@@ -136,6 +136,7 @@ ready v vb offsets governing stored A W L n s q b ok a none-out keys =
       some = s .some;
       wide = wide;
       bytes = omega (arith, s .whole, s .high);
+      width = s .width;
       doubleword = s .doubleword;
       quadword = λ e. omega (arith, s .size, s .wide);
       inside = none-out;

@@ -1,11 +1,13 @@
 -- Scatter and quadword stores from their keys on. For the contracts of the code's own functions. Assumes nothing.
 use Prim.Native.Nat.{ℕ, _+_, _*_, _^_, _≤_}
 use mathlib.Core.List.{List, [], _∷_}
+use mathlib.Core.Bool.{true}
 use mathlib.Core.Option.{none}
 use mathlib.Core.Path.{_≡_}
 use lib.ListN.{length}
 use Rattle.writes.specs.Elements.{Element}
 use Rattle.endian.specs.Overwriting.{overwritten}
+use Rattle.elements.specs.Accesses.{isWidth}
 use Rattle.ordering.specs.Keys.{numberOf, entries}
 use Rattle.stretches.specs.Stretches.{startOf, Seen, keysOf}
 use Rattle.cutting.specs.Cutting.{part, Fits}
@@ -36,6 +38,7 @@ pub record Ready (W L step size : ℕ) (stored A : List ℕ) (n : ℕ) (es : Lis
   pub some : 1 ≤ size
   pub wide : size ≤ 256
   pub bytes : n * size ≤ 256
+  pub width : isWidth size ≡ true
   pub doubleword : size ≡ 8 → step ≡ 8
   pub quadword : size ≡ 16 → step ≡ 16
   pub inside : firstOutside W L es ≡ none

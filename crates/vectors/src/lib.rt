@@ -6,7 +6,7 @@ ghost use Prim.Native.Nat.{_+_, _*_, _<_, _≤_};
 ghost use lib.ListN.{length};
 ghost use Rattle.writes.specs.Elements.{Element};
 ghost use Rattle.window.specs.Window.{windowOk};
-ghost use Rattle.elements.specs.Accesses.{VectorSound};
+ghost use Rattle.elements.specs.Accesses.{isWidth, VectorSound};
 ghost use Rattle.ordering.specs.Keys.{numberOf, entries, Each};
 ghost use Rattle.checks.specs.Checking.{Sound, vectorsIn};
 ghost use Rattle.outcomes.specs.Steps.{StoredOf};
@@ -56,7 +56,7 @@ fn write_keys(
     Counts { elements, bytes }
 }
 
-// The same with constants for the size, so that the compiler makes a loop of its own for each.
+// The same with a constant for each size, so that the compiler makes a loop of its own for it, and none calls `copy_any`.
 fn write_vector(
     keys: &[u32],
     n: usize,
@@ -66,7 +66,7 @@ fn write_vector(
     memory: &mut [u8],
 ) -> Counts
     requires { ⌜ (n ≤ length (now keys)) × (n ≤ 64) × (size ≤ 256) ⌝ }
-    requires { ⌜ (size ≡ 8 → step ≡ 8) × (size ≡ 16 → step ≡ 16) ⌝ }
+    requires { ⌜ (isWidth size ≡ true) × (size ≡ 8 → step ≡ 8) × (size ≡ 16 → step ≡ 16) ⌝ }
     requires { ⌜ Each (λ k. Placed step size (length (now memory)) (length (now stored)) k) (entries (now keys) 0 n) ⌝ }
     ensures { λ r. ⌜ (r .elements ≡ n) × (r .bytes ≡ n * size) ⌝ }
     ensures { λ _.
@@ -81,7 +81,10 @@ fn write_vector(
     if size == 16 {
         return write_keys(keys, n, 16, 16, stored, memory);
     }
-    write_keys(keys, n, step, size, stored, memory)
+    if size == 4 {
+        return write_keys(keys, n, step, 4, stored, memory);
+    }
+    write_keys(keys, n, step, 2, stored, memory)
 }
 
 // From the keys on: join, order, room, memory, patch.

@@ -75,6 +75,18 @@ const CLASSES: &[Class] = &[
     strided("ST1D strided, two, immediate", IMMEDIATE, 2),
     strided("ST1D strided, four, immediate", IMMEDIATE, 4),
     class("ST1Q", QUADWORD),
+    class("ST1H, 32-bit unpacked scaled", EXTENDED),
+    class("ST1H, 32-bit unpacked unscaled", EXTENDED),
+    class("ST1H, 64-bit scaled", SCATTER),
+    class("ST1H, 64-bit unscaled", SCATTER),
+    class("ST1H, 32-bit scaled", EXTENDED),
+    class("ST1H, 32-bit unscaled", EXTENDED),
+    class("ST1W, 32-bit unpacked scaled", EXTENDED),
+    class("ST1W, 32-bit unpacked unscaled", EXTENDED),
+    class("ST1W, 64-bit scaled", SCATTER),
+    class("ST1W, 64-bit unscaled", SCATTER),
+    class("ST1W, 32-bit scaled", EXTENDED),
+    class("ST1W, 32-bit unscaled", EXTENDED),
 ];
 
 const EXTENSIONS: &[(&str, Option<Extension>)] =

@@ -17,9 +17,10 @@ usage: starshackle encode [--json] NAME=VALUE...
 
 Shows the word of the store with these fields, or that there is none: fields (verdict 11).
 
-  class=N              the class by its number, 1 to 12
+  class=N              the class by its number, 1 to 24
   zm=N or rm=N         the vector or the general register of the offset, 0 to 31
-  extension=E          uxtw or sxtw in classes 1, 2, 5 and 6, none in the others
+  extension=E          uxtw or sxtw in classes 1, 2, 5, 6, 13, 14, 17 to 20, 23 and 24, none in the
+                       others
   pg=N or pc=N         the predicate register, or the counter's register less 8, 0 to 7
   rn=N or zn=N         the general or the vector register of the base, 0 to 31
   zt=N or first=N      the register that is stored, 0 to 31, or the first of a strided store:

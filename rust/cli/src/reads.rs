@@ -40,7 +40,7 @@ mod tests {
 
     const VB: usize = 16;
 
-    /// Document 01's base words in the order of their classes, each with the places of its fields.
+    /// The base words in the order of their classes, each with the places of its fields.
     const WORDS: &[(u32, u32)] = &[
         (0xE5A0_8000, 0x001F_5FFF),
         (0xE580_8000, 0x001F_5FFF),
@@ -54,6 +54,18 @@ mod tests {
         (0xA160_6000, 0x000F_1FF7),
         (0xA160_E000, 0x000F_1FF3),
         (0xE420_2000, 0x001F_1FFF),
+        (0xE4A0_8000, 0x001F_5FFF),
+        (0xE480_8000, 0x001F_5FFF),
+        (0xE4A0_A000, 0x001F_1FFF),
+        (0xE480_A000, 0x001F_1FFF),
+        (0xE4E0_8000, 0x001F_5FFF),
+        (0xE4C0_8000, 0x001F_5FFF),
+        (0xE520_8000, 0x001F_5FFF),
+        (0xE500_8000, 0x001F_5FFF),
+        (0xE520_A000, 0x001F_1FFF),
+        (0xE500_A000, 0x001F_1FFF),
+        (0xE560_8000, 0x001F_5FFF),
+        (0xE540_8000, 0x001F_5FFF),
     ];
 
     /// What the model says of a store: its answer, memory, patch and elements.
@@ -145,6 +157,8 @@ mod tests {
             (0xA16F_6000, "x0 z0 z8 p8"),
             (0xE421_2043, "x1 z2 z3 p0"), // st1q { z3.q }, p0, [z2.d, x1]
             (0xE43F_3BED, "z13 z31 p6"),  // st1q { z13.q }, p6, [z31.d]
+            (0xE4E1_C000, "x0 z0 z1 p0"), // st1h { z0.s }, p0, [x0, z1.s, sxtw #1]
+            (0xE523_B7E7, "sp z3 z7 p5"), // st1w { z7.d }, p5, [sp, z3.d, lsl #2]
         ];
         for (word, names) in cases {
             let registers = Known::decode(word).unwrap().registers();

@@ -27,6 +27,18 @@ pub const CLASSES: &[Class] = &[
     class("ST1D strided, two, immediate",    2, "101000010110 iiii  0 11 ggg nnnnn T 0 ttt"),
     class("ST1D strided, four, immediate",   4, "101000010110 iiii  1 11 ggg nnnnn T 00 tt"),
     class("ST1Q",                            1, "11100100 001 mmmmm 001 ggg nnnnn ttttt"),
+    class("ST1H, 32-bit unpacked scaled",    1, "1110010 01 01 mmmmm 1x0 ggg nnnnn ttttt"),
+    class("ST1H, 32-bit unpacked unscaled",  1, "1110010 01 00 mmmmm 1x0 ggg nnnnn ttttt"),
+    class("ST1H, 64-bit scaled",             1, "1110010 01 01 mmmmm 101 ggg nnnnn ttttt"),
+    class("ST1H, 64-bit unscaled",           1, "1110010 01 00 mmmmm 101 ggg nnnnn ttttt"),
+    class("ST1H, 32-bit scaled",             1, "1110010 01 11 mmmmm 1x0 ggg nnnnn ttttt"),
+    class("ST1H, 32-bit unscaled",           1, "1110010 01 10 mmmmm 1x0 ggg nnnnn ttttt"),
+    class("ST1W, 32-bit unpacked scaled",    1, "1110010 10 01 mmmmm 1x0 ggg nnnnn ttttt"),
+    class("ST1W, 32-bit unpacked unscaled",  1, "1110010 10 00 mmmmm 1x0 ggg nnnnn ttttt"),
+    class("ST1W, 64-bit scaled",             1, "1110010 10 01 mmmmm 101 ggg nnnnn ttttt"),
+    class("ST1W, 64-bit unscaled",           1, "1110010 10 00 mmmmm 101 ggg nnnnn ttttt"),
+    class("ST1W, 32-bit scaled",             1, "1110010 10 11 mmmmm 1x0 ggg nnnnn ttttt"),
+    class("ST1W, 32-bit unscaled",           1, "1110010 10 10 mmmmm 1x0 ggg nnnnn ttttt"),
 ];
 
 const fn class(name: &'static str, registers: i64, bits: &'static str) -> Class {

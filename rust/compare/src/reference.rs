@@ -187,6 +187,8 @@ impl Layout {
 #[cfg(test)]
 mod tests {
     use super::*;
+    use crate::model_decode;
+    use crate::storing::classes::BESIDE;
 
     const NONE: Outcome<8> = Outcome { verdict: UNDEFINED, numbers: [0; 8] };
 
@@ -203,10 +205,13 @@ mod tests {
             (0xA120_6010, store([8, 0, 0, 0, 0, 16, 0, 0])),
             (0xA120_E004, NONE),
             (0xA120_6008, NONE),
-            (0xE420_8000, NONE),
         ];
         for (word, outcome) in cases {
             assert_eq!(reference.decode(word), outcome, "{word:08X}");
+        }
+        for word in BESIDE {
+            assert_eq!(reference.decode(*word), NONE, "{word:08X}");
+            assert_eq!(model_decode(*word), NONE, "{word:08X}");
         }
     }
 
@@ -219,6 +224,10 @@ mod tests {
             (0xA13F_FFF3, [9, 31, 0, 7, 31, 19, 0, 0]),
             (0xA167_7C37, [10, 0, 0, 7, 1, 23, 14, 0]),
             (0xE421_2443, [12, 1, 0, 1, 2, 3, 0, 0]),
+            (0xE4BE_DC87, [13, 30, 2, 7, 4, 7, 0, 0]),
+            (0xE4C3_87FF, [18, 3, 1, 1, 31, 31, 0, 0]),
+            (0xE53F_BFFF, [21, 31, 0, 7, 31, 31, 0, 0]),
+            (0xE57E_DC87, [23, 30, 2, 7, 4, 7, 0, 0]),
         ];
         for (word, fields) in cases {
             assert_eq!(reference.decode(word), store(fields), "{word:08X}");
@@ -242,6 +251,10 @@ mod tests {
             [11, 0, 0, 0, 0, 0, 2, 0],
             [12, 0, 0, 0, 0, 0, 1, 0],
             [12, 0, 0, 0, 0, 0, 0, 1],
+            [13, 0, 0, 0, 0, 0, 0, 0],
+            [16, 0, 2, 0, 0, 0, 0, 0],
+            [18, 0, 3, 0, 0, 0, 0, 0],
+            [24, 0, 1, 0, 0, 0, 1, 0],
         ];
         for fields in cases {
             assert_eq!(Reference::new().encode(&fields), refused, "{fields:?}");

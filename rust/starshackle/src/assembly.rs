@@ -18,6 +18,18 @@ const SYNTAX: &[&str] = &[
     "st1d { <Zt1>.d, <Zt2>.d }, <PNg>, [<Xn|SP>{, #<imm>, mul vl}]",
     "st1d { <Zt1>.d, <Zt2>.d, <Zt3>.d, <Zt4>.d }, <PNg>, [<Xn|SP>{, #<imm>, mul vl}]",
     "st1q { <Zt>.q }, <Pg>, [<Zn>.d{, <Xm>}]",
+    "st1h { <Zt>.d }, <Pg>, [<Xn|SP>, <Zm>.d, <mod> #1]",
+    "st1h { <Zt>.d }, <Pg>, [<Xn|SP>, <Zm>.d, <mod>]",
+    "st1h { <Zt>.d }, <Pg>, [<Xn|SP>, <Zm>.d, lsl #1]",
+    "st1h { <Zt>.d }, <Pg>, [<Xn|SP>, <Zm>.d]",
+    "st1h { <Zt>.s }, <Pg>, [<Xn|SP>, <Zm>.s, <mod> #1]",
+    "st1h { <Zt>.s }, <Pg>, [<Xn|SP>, <Zm>.s, <mod>]",
+    "st1w { <Zt>.d }, <Pg>, [<Xn|SP>, <Zm>.d, <mod> #2]",
+    "st1w { <Zt>.d }, <Pg>, [<Xn|SP>, <Zm>.d, <mod>]",
+    "st1w { <Zt>.d }, <Pg>, [<Xn|SP>, <Zm>.d, lsl #2]",
+    "st1w { <Zt>.d }, <Pg>, [<Xn|SP>, <Zm>.d]",
+    "st1w { <Zt>.s }, <Pg>, [<Xn|SP>, <Zm>.s, <mod> #2]",
+    "st1w { <Zt>.s }, <Pg>, [<Xn|SP>, <Zm>.s, <mod>]",
 ];
 
 /// The text of a store that [`crate::decode`] has answered; none for a class not in the list.
@@ -110,6 +122,12 @@ mod tests {
             ([10, 0, 0, 0, 0, 0, 0, 0], "st1d { z0.d, z8.d }, pn8, [x0]"),
             ([12, 30, 0, 1, 31, 2, 0, 0], "st1q { z2.q }, p1, [z31.d, x30]"),
             ([12, 31, 0, 1, 31, 2, 0, 0], "st1q { z2.q }, p1, [z31.d]"),
+            ([13, 2, 1, 3, 31, 4, 0, 0], "st1h { z4.d }, p3, [sp, z2.d, uxtw #1]"),
+            ([16, 2, 0, 3, 31, 4, 0, 0], "st1h { z4.d }, p3, [sp, z2.d]"),
+            ([17, 1, 2, 0, 0, 0, 0, 0], "st1h { z0.s }, p0, [x0, z1.s, sxtw #1]"),
+            ([21, 30, 0, 7, 30, 31, 0, 0], "st1w { z31.d }, p7, [x30, z30.d, lsl #2]"),
+            ([23, 1, 2, 0, 0, 0, 0, 0], "st1w { z0.s }, p0, [x0, z1.s, sxtw #2]"),
+            ([24, 1, 1, 0, 31, 0, 0, 0], "st1w { z0.s }, p0, [sp, z1.s, uxtw]"),
         ];
         for (fields, text) in cases {
             assert_eq!(text_of(fields).as_deref(), Some(text));

@@ -14,7 +14,7 @@ use std::ops::{BitOr, BitOrAssign};
 pub struct Flags(pub u64);
 
 impl Flags {
-    /// Classes 1 to 7 are defined.
+    /// Classes 1 to 7 and 13 to 24 are defined.
     pub const SVE: Flags = Flags(1);
     /// Classes 8 to 11 are defined.
     pub const SME2: Flags = Flags(1 << 1);

@@ -24,11 +24,11 @@ pub enum Extension {
 /// ```
 #[derive(Clone, Copy, Debug, Default, PartialEq, Eq, Hash)]
 pub struct Store {
-    /// The class, numbered from 1 to 12 as document 01 does.
+    /// The class, numbered from 1 to 12 as document 01 does and from 13 to 24 as document 02 (i) does.
     pub class: u64,
-    /// Zm in classes 1 to 7, Rm in 8, 9 and 12.
+    /// Zm in classes 1 to 7 and 13 to 24, Rm in 8, 9 and 12.
     pub index: u64,
-    /// The offsets' extension, in classes 1, 2, 5 and 6.
+    /// The offsets' extension, in classes 1, 2, 5, 6, 13, 14, 17 to 20, 23 and 24.
     pub extension: Option<Extension>,
     /// Pg; in classes 8 to 11 the counter's register less 8.
     pub predicate: u64,
@@ -132,9 +132,48 @@ mod tests {
         assert_eq!(encode(store), Ok(0xE5A0_C3E0));
     }
 
+    /// Classes 13 to 24 in order: bits 24..23 have the size, 22..21 the element and the scale, and 15..13
+    /// the offsets' form.
+    #[test]
+    fn halfwords_and_words() {
+        let unpacked = [0xE4A0_8000, 0xE480_8000];
+        let (wide, narrow) = ([0xE4A0_A000, 0xE480_A000], [0xE4E0_8000, 0xE4C0_8000]);
+        let halfwords = [unpacked, wide, narrow].concat();
+        let words = halfwords.iter().map(|word| word ^ 0x0180_0000);
+        let fields = 31 << 16 | 7 << 10 | 31 << 5 | 30;
+        for (class, word) in (13..).zip(halfwords.iter().copied().chain(words)) {
+            let extended = word & 1 << 13 == 0;
+            let extension = extended.then_some(Extension::Uxtw);
+            let (index, predicate, base, register) = (31, 7, 31, 30);
+            let store = Store { class, index, extension, predicate, base, register, multiple: 0 };
+            assert_eq!(decode(word | fields), Ok(store));
+            assert_eq!(encode(store), Ok(word | fields));
+            if extended {
+                let signed = Store { extension: Some(Extension::Sxtw), ..store };
+                assert_eq!(decode(word | fields | 1 << 14), Ok(signed));
+            }
+        }
+    }
+
     #[test]
     fn refusals() {
         assert_eq!(decode(0xE420_8000), Err(Refusal::Undefined));
         assert_eq!(encode(Store { multiple: 1, ..STRIDED }), Err(Refusal::Fields));
+        assert_eq!(encode(Store { class: 25, ..Store::default() }), Err(Refusal::Fields));
+    }
+
+    /// Places beside the classes: scaled bytes, doublewords in elements of 32 bits, and 64-bit offsets
+    /// with bits 22..21 as 10 and 11.
+    #[test]
+    fn undefined_beside_the_classes() {
+        let bytes = [0xE420_8000, 0xE420_C000, 0xE420_A000, 0xE460_8000, 0xE460_C000];
+        let doublewords = [0xE5C0_8000, 0xE5C0_C000, 0xE5E0_8000, 0xE5E0_C000];
+        let sizes = [0xE440_A000, 0xE4C0_A000, 0xE540_A000, 0xE5C0_A000];
+        let wide = sizes.iter().flat_map(|word| [*word, word | 1 << 21]);
+        for word in bytes.into_iter().chain(doublewords).chain(wide) {
+            for fields in [0, 0x001F_1FFF] {
+                assert_eq!(decode(word | fields), Err(Refusal::Undefined), "{word:08X}");
+            }
+        }
     }
 }

@@ -3,12 +3,15 @@
 use starshackle::{element, store, Flags, Machine, Refusal, Window};
 
 const ST1B: u32 = 0xE402_A001; // st1b { z1.d }, p0, [x0, z2.d]
+const ST1H: u32 = 0xE4C2_8001; // st1h { z1.s }, p0, [x0, z2.s, uxtw]
+const ST1W: u32 = 0xE502_A001; // st1w { z1.d }, p0, [x0, z2.d]
 const ST1D: u32 = 0xE582_A001; // st1d { z1.d }, p0, [x0, z2.d]
 const STRIDED: u32 = 0xA160_6000; // st1d { z0.d, z8.d }, pn8, [x0]
 const ST1Q: u32 = 0xE43F_2041; // st1q { z1.q }, p0, [z2.d]
 
 /// The words, with the bytes of an element.
-const WORDS: [(u32, u64); 4] = [(ST1B, 1), (ST1D, 8), (STRIDED, 8), (ST1Q, 16)];
+const WORDS: [(u32, u64); 6] =
+    [(ST1B, 1), (ST1H, 2), (ST1W, 4), (ST1D, 8), (STRIDED, 8), (ST1Q, 16)];
 
 /// A byte of memory and of the buffer before the call.
 const OLD: u8 = 0x77;

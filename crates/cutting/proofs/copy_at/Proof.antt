@@ -96,26 +96,26 @@ returns-4 c =
     let b = wide t in
     moved-ends _ _ _ _ _ _ _ _ _ _ (omega arith) (omega arith) (p .2) (p .1) refl refl (first .move82 .ensures) (second .move83 .ensures)
 
-sub-copy : tie.Need-sub-copy
-sub-copy c = search needs
+sub-copy-any : tie.Need-sub-copy-any
+sub-copy-any c = search needs
 
-part-copy-start : tie.Need-part-copy-start
-part-copy-start c = search needs
+part-copy-any-start : tie.Need-part-copy-any-start
+part-copy-any-start c = search needs
 
-part-copy-end : tie.Need-part-copy-end
-part-copy-end c = search needs
+part-copy-any-end : tie.Need-part-copy-any-end
+part-copy-any-end c = search needs
 
-sub-copy-2 : tie.Need-sub-copy-2
-sub-copy-2 c = search needs
+sub-copy-any-2 : tie.Need-sub-copy-any-2
+sub-copy-any-2 c = search needs
 
-part-copy-start-2 : tie.Need-part-copy-start-2
-part-copy-start-2 c = search needs
+part-copy-any-start-2 : tie.Need-part-copy-any-start-2
+part-copy-any-start-2 c = search needs
 
-part-copy-end-2 : tie.Need-part-copy-end-2
-part-copy-end-2 c = search needs
+part-copy-any-end-2 : tie.Need-part-copy-any-end-2
+part-copy-any-end-2 c = search needs
 
-copy-requires : tie.Need-copy-requires
-copy-requires c κs = search needs
+copy-any-requires : tie.Need-copy-any-requires
+copy-any-requires c κs = search needs
 
 same-length-5 : tie.Need-same-length-5
 same-length-5 c = search needs
@@ -124,7 +124,7 @@ returns-5 : tie.Need-returns-5
 returns-5 c =
     let w = c .before .before in
     let k = w .before .before .before in
-    copied-part _ _ _ _ _ _ (entry (k .before .before) .pre .2) (w .copy .ensures)
+    copied-part _ _ _ _ _ _ (entry (k .before .before) .pre .2) (w .copy-any .ensures)
 
 pub copy-at-spec : {M : Type 1} → statement M
 copy-at-spec =
@@ -151,12 +151,12 @@ copy-at-spec =
     move8-requires-3
     same-length-4
     returns-4
-    sub-copy
-    part-copy-start
-    part-copy-end
-    sub-copy-2
-    part-copy-start-2
-    part-copy-end-2
-    copy-requires
+    sub-copy-any
+    part-copy-any-start
+    part-copy-any-end
+    sub-copy-any-2
+    part-copy-any-start-2
+    part-copy-any-end-2
+    copy-any-requires
     same-length-5
     returns-5)

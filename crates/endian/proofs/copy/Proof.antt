@@ -1,4 +1,4 @@
--- `copy`: eight bytes, sixteen or one by one move, any other number by `copy_any`. Assumes nothing.
+-- `copy`: eight bytes, sixteen, one, four or two by one move, any other number by `copy_any`. Assumes nothing.
 use borrow.Author.Needs.{needs}
 use Rattle.endian.proofs.Copying.{copied-once, copied-one}
 use Rattle.endian.proofs.copy.Statement.{statement}
@@ -46,23 +46,40 @@ returns-3 c =
     let st = known .before .before in
     copied-one (st .args .src .now) (st .args .dst .now) (st .pre) (test .if3 .taken)
 
-copy-any-requires : tie.Need-copy-any-requires
-copy-any-requires c κs = search needs
+copy4-requires : tie.Need-copy4-requires
+copy4-requires c κs = search needs
 
 same-length-4 : tie.Need-same-length-4
 same-length-4 c = search needs
 
 returns-4 : tie.Need-returns-4
-returns-4 c = search needs
+returns-4 c =
+    let moved = c .before .before in
+    let test = moved .before .before in
+    let st = test .before .before .before .before .before .before in
+    copied-once (st .args .src .now) (st .args .dst .now) _ _ (st .pre) (test .if4 .taken) (moved .copy4 .ensures)
 
-copy-any-requires-2 : tie.Need-copy-any-requires-2
-copy-any-requires-2 c κs = search needs
+copy2-requires : tie.Need-copy2-requires
+copy2-requires c κs = search needs
 
 same-length-5 : tie.Need-same-length-5
 same-length-5 c = search needs
 
 returns-5 : tie.Need-returns-5
-returns-5 c = search needs
+returns-5 c =
+    let moved = c .before .before in
+    let test = moved .before .before in
+    let st = test .before .before .before .before .before .before .before in
+    copied-once (st .args .src .now) (st .args .dst .now) _ _ (st .pre) (test .if5 .taken) (moved .copy2 .ensures)
+
+copy-any-requires : tie.Need-copy-any-requires
+copy-any-requires c κs = search needs
+
+same-length-6 : tie.Need-same-length-6
+same-length-6 c = search needs
+
+returns-6 : tie.Need-returns-6
+returns-6 c = search needs
 
 pub copy-spec : {M : Type 1} → statement M
 copy-spec =
@@ -78,9 +95,12 @@ copy-spec =
     slice-write-dst
     same-length-3
     returns-3
-    copy-any-requires
+    copy4-requires
     same-length-4
     returns-4
-    copy-any-requires-2
+    copy2-requires
     same-length-5
-    returns-5)
+    returns-5
+    copy-any-requires
+    same-length-6
+    returns-6)

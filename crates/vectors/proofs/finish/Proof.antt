@@ -112,7 +112,7 @@ write-vector-requires : tie.Need-write-vector-requires
 write-vector-requires c κs =
     let a = start (ordered (c .before .before)) in
     let r = a .pre .1 in
-    ((r .in-array, r .few, r .wide), ((r .doubleword, r .quadword), ready-placed _ _ _ (a .args .memory .now) _ _ _ (a .pre .0) r))
+    ((r .in-array, r .few, r .wide), ((r .width, r .doubleword, r .quadword), ready-placed _ _ _ (a .args .memory .now) _ _ _ (a .pre .0) r))
 
 slice-aggregate-compose : tie.Need-slice-aggregate-compose
 slice-aggregate-compose c = search needs

@@ -6,7 +6,7 @@ use super::{times_hand, Aim, Case, Outcome, Subject, NO_SLOWER};
 use crate::sides::Side;
 use crate::timing::{timed, Repeated};
 use crate::verdicts::{DONE, FAULT};
-use compare::storing::classes::{class_of, INDEX};
+use compare::storing::classes::{class_of, CLASSES, INDEX};
 use compare::storing::input::Input;
 use compare::storing::{self, shapes};
 use starshackle::{Machine, Window, LARGEST_STORE_PATCH};
@@ -16,6 +16,8 @@ use std::cell::RefCell;
 const WIDE: f64 = 1.2;
 const CONTIGUOUS: f64 = 0.9;
 const BYTES: f64 = 1.35;
+/// Halfwords and words.
+const NARROW: f64 = 1.4;
 const STRIDED: f64 = 1.6;
 const RANDOM: f64 = 1.15;
 
@@ -42,7 +44,7 @@ pub fn cases() -> Vec<Case> {
     cases.push(pairs());
     cases.push(fault());
     cases.push(random("classes 1 to 7", 7));
-    cases.push(random("all classes", 12));
+    cases.push(random("all classes", CLASSES.len()));
     cases
 }
 
@@ -73,6 +75,11 @@ fn others(cases: &mut Vec<Case>) {
         ("class 6, VB 256, unsorted", BYTES, wide(6)),
         ("class 12, VB 256, sorted", WIDE, sorted(12)),
         ("class 12, VB 256, unsorted", WIDE, wide(12)),
+        ("class 16, VB 256, sorted", NARROW, sorted(16)),
+        ("class 16, VB 256, unsorted", NARROW, wide(16)),
+        ("class 18, VB 256, sorted", NARROW, sorted(18)),
+        ("class 24, VB 256, sorted", NARROW, sorted(24)),
+        ("class 24, VB 256, unsorted", NARROW, wide(24)),
     ] {
         cases.push(one(name, aim, shape));
     }

@@ -20,6 +20,16 @@ pub enum Loop {
     ByteSxtw,
     PackedByteUxtw,
     PackedByteSxtw,
+    Halfword,
+    HalfwordUxtw,
+    HalfwordSxtw,
+    PackedHalfwordUxtw,
+    PackedHalfwordSxtw,
+    Word,
+    WordUxtw,
+    WordSxtw,
+    PackedWordUxtw,
+    PackedWordSxtw,
     Quadword,
     Strided,
 }
@@ -86,7 +96,7 @@ const fn immediate(class: u8, base: u32, register: u8, step: u8) -> Row {
     Row { fixed: strided.fixed | 1 << 20, index: 0, step, ..strided }
 }
 
-const ROWS: [Row; 16] = [
+const ROWS: [Row; 36] = [
     uxtw(1, 0xE5A0_8000, 3, Loop::DoublewordUxtw),
     sxtw(1, 0xE5A0_8000, 3, Loop::DoublewordSxtw),
     uxtw(2, 0xE580_8000, 0, Loop::DoublewordUxtw),
@@ -103,6 +113,26 @@ const ROWS: [Row; 16] = [
     immediate(10, 0xA160_6000, 0x17, 2),
     immediate(11, 0xA160_E000, 0x13, 4),
     quadword(12, 0xE420_2000),
+    uxtw(13, 0xE4A0_8000, 1, Loop::HalfwordUxtw),
+    sxtw(13, 0xE4A0_8000, 1, Loop::HalfwordSxtw),
+    uxtw(14, 0xE480_8000, 0, Loop::HalfwordUxtw),
+    sxtw(14, 0xE480_8000, 0, Loop::HalfwordSxtw),
+    scatter(15, 0xE4A0_A000, 1, Loop::Halfword),
+    scatter(16, 0xE480_A000, 0, Loop::Halfword),
+    uxtw(17, 0xE4E0_8000, 1, Loop::PackedHalfwordUxtw),
+    sxtw(17, 0xE4E0_8000, 1, Loop::PackedHalfwordSxtw),
+    uxtw(18, 0xE4C0_8000, 0, Loop::PackedHalfwordUxtw),
+    sxtw(18, 0xE4C0_8000, 0, Loop::PackedHalfwordSxtw),
+    uxtw(19, 0xE520_8000, 2, Loop::WordUxtw),
+    sxtw(19, 0xE520_8000, 2, Loop::WordSxtw),
+    uxtw(20, 0xE500_8000, 0, Loop::WordUxtw),
+    sxtw(20, 0xE500_8000, 0, Loop::WordSxtw),
+    scatter(21, 0xE520_A000, 2, Loop::Word),
+    scatter(22, 0xE500_A000, 0, Loop::Word),
+    uxtw(23, 0xE560_8000, 2, Loop::PackedWordUxtw),
+    sxtw(23, 0xE560_8000, 2, Loop::PackedWordSxtw),
+    uxtw(24, 0xE540_8000, 0, Loop::PackedWordUxtw),
+    sxtw(24, 0xE540_8000, 0, Loop::PackedWordSxtw),
 ];
 
 /// Bits 24..21 and 15..13 tell the rows apart.

@@ -28,7 +28,7 @@ pub struct Lane {
 impl<'a, const ESIZE: usize, const SIZE: usize, const EXTENSION: u8>
     Lanes<'a, ESIZE, SIZE, EXTENSION>
 {
-    /// Those of classes 1 to 7, or the stack's verdict.
+    /// Those at offsets from a base register, or the stack's verdict.
     #[inline(always)]
     pub fn from_base(lent: &Lent<'a>, scale: u32) -> Result<Self, u64> {
         let mut lanes = Lanes::new(lent, lent.z(field(lent.word, 16, 31)), scale);

@@ -35,7 +35,7 @@ const fn strided(number: u64, base: u32, registers: usize, immediate: bool) -> C
     Class { number, base, fixed: high | low, form: Form::Strided { registers, immediate } }
 }
 
-const CLASSES: [Class; 12] = [
+const CLASSES: [Class; 24] = [
     scatter(1, 0xE5A0_8000, (8, 8), 3),
     scatter(2, 0xE580_8000, (8, 8), 0),
     scatter(3, 0xE5A0_A000, (8, 8), 3),
@@ -48,6 +48,18 @@ const CLASSES: [Class; 12] = [
     strided(10, 0xA160_6000, 2, true),
     strided(11, 0xA160_E000, 4, true),
     Class { number: 12, base: 0xE420_2000, fixed: 0xFFE0_E000, form: Form::Quadword },
+    scatter(13, 0xE4A0_8000, (8, 2), 1),
+    scatter(14, 0xE480_8000, (8, 2), 0),
+    scatter(15, 0xE4A0_A000, (8, 2), 1),
+    scatter(16, 0xE480_A000, (8, 2), 0),
+    scatter(17, 0xE4E0_8000, (4, 2), 1),
+    scatter(18, 0xE4C0_8000, (4, 2), 0),
+    scatter(19, 0xE520_8000, (8, 4), 2),
+    scatter(20, 0xE500_8000, (8, 4), 0),
+    scatter(21, 0xE520_A000, (8, 4), 2),
+    scatter(22, 0xE500_A000, (8, 4), 0),
+    scatter(23, 0xE560_8000, (4, 4), 2),
+    scatter(24, 0xE540_8000, (4, 4), 0),
 ];
 
 /// The class of a word, and the store that it names.

@@ -31,7 +31,7 @@ pub struct Element {
     /// What it writes, in bytes.
     pub size: usize,
     /// The bits that it writes.
-    value: u128,
+    pub(super) value: u128,
 }
 
 impl Element {
@@ -210,15 +210,21 @@ fn of_register(
 fn scatter(input: &Input, class: &Class, offset_size: usize, scale: u32) -> Vec<Element> {
     let (word, esize) = (input.word, class.esize);
     let mask = p(input, PREDICATE.of(word));
-    let offsets = z(input, INDEX.of(word));
-    let signed = offset_size == 32 && XS.of(word) == 1;
     let of = |e| {
-        let cut = elem(offsets, e, esize, offset_size) as u64;
-        let offset = if signed { sign_extended(cut, offset_size) } else { cut };
-        let address = base(input).wrapping_add(offset.wrapping_mul(1 << scale));
+        let scaled = offset(input, class, offset_size, e) << scale;
+        let address = base(input).wrapping_add(scaled as u64);
         of_register(input, class, ZT.of(word), e, (bit(mask, e * esize / 8), address))
     };
     (0..class.elements(input.vb)).map(of).collect()
+}
+
+/// The offset of element `e`: the low `size` bits of the offset element, extended as named.
+pub fn offset(input: &Input, class: &Class, size: usize, e: usize) -> i128 {
+    let cut = elem(z(input, INDEX.of(input.word)), e, class.esize, size) as u64;
+    match size == 32 && XS.of(input.word) == 1 {
+        true => (sign_extended(cut, size) as i64).into(),
+        false => cut.into(),
+    }
 }
 
 fn quadword(input: &Input, class: &Class) -> Vec<Element> {

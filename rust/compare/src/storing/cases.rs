@@ -1,6 +1,7 @@
 //! The scope paper's cases, asked of the independent model and of the library.
 
 use super::arm::*;
+use super::classes::{BESIDE, CLASSES};
 use super::input::Input;
 use super::wrong::right;
 use super::Store;
@@ -122,9 +123,10 @@ fn words() {
     assert_eq!(address(&strided(0xA168_E000, 0), 0), 0x1000 - 32 * 16);
     let indices = [0, 1, 2, 3].map(|e| inspected(&input(0xA120_6010), e).1[2]);
     assert_eq!(indices, [16 * 16, 16 * 16 + 8, 24 * 16, 24 * 16 + 8]);
-    for word in [0xA120_E004, 0xA120_6008, 0xE420_8000] {
-        assert_eq!(answer(&strided(word, 0x8008)), refused(UNDEFINED));
-        assert_eq!(inspected(&input(word), 0), (UNDEFINED, [0; 5]));
+    for word in [0xA120_E004, 0xA120_6008].iter().chain(BESIDE) {
+        assert_eq!(answer(&strided(*word, 0x8008)), refused(UNDEFINED));
+        assert_eq!(answer(&input(*word)), refused(UNDEFINED));
+        assert_eq!(inspected(&input(*word), 0), (UNDEFINED, [0; 5]));
     }
 }
 
@@ -135,6 +137,108 @@ fn addresses() {
     assert_eq!(address(&scatter(0xE580_8000, offset), 0), 0x1_0000_0FF8);
     assert_eq!(address(&scatter(0xE5A0_8000, offset), 0), 0x8_0000_0FC0);
     assert_eq!(address(&scatter(0xE5A0_A000, 0x2000_0000_0000_0001), 0), 0x1008);
+}
+
+/// Document 02 (i): "the scale is 1 or 2"; in the .S forms the offsets are elements of 32 bits.
+#[test]
+fn addresses_of_halfwords_and_words() {
+    let offset = 0x1234_5678_FFFF_FFF8;
+    let signed = [
+        (0xE4A0_C000, 0xFF0),
+        (0xE480_C000, 0xFF8),
+        (0xE4E0_C000, 0xFF0),
+        (0xE4C0_C000, 0xFF8),
+        (0xE520_C000, 0xFE0),
+        (0xE500_C000, 0xFF8),
+        (0xE560_C000, 0xFE0),
+        (0xE540_C000, 0xFF8),
+    ];
+    let unsigned = [
+        (0xE4A0_8000, 0x2_0000_0FF0),
+        (0xE480_8000, 0x1_0000_0FF8),
+        (0xE4E0_8000, 0x2_0000_0FF0),
+        (0xE4C0_8000, 0x1_0000_0FF8),
+        (0xE520_8000, 0x4_0000_0FE0),
+        (0xE500_8000, 0x1_0000_0FF8),
+        (0xE560_8000, 0x4_0000_0FE0),
+        (0xE540_8000, 0x1_0000_0FF8),
+    ];
+    for (word, first) in signed.into_iter().chain(unsigned) {
+        assert_eq!(address(&scatter(word, offset), 0), first, "{word:08X}");
+    }
+    for (word, second) in [
+        (0xE4E0_8000, 0x2468_BCF0),
+        (0xE4C0_C000, 0x1234_6678),
+        (0xE560_C000, 0x48D1_69E0),
+        (0xE540_8000, 0x1234_6678),
+    ] {
+        assert_eq!(address(&scatter(word, offset), 1), second, "{word:08X}");
+    }
+    assert_eq!(address(&scatter(0xE4A0_A000, 0x8000_0000_0000_0001), 0), 0x1002);
+    assert_eq!(address(&scatter(0xE480_A000, 0x8000_0000_0000_0001), 0), 0x8000_0000_0000_1001);
+    assert_eq!(address(&scatter(0xE520_A000, 0xC000_0000_0000_0001), 0), 0x1004);
+    assert_eq!(address(&scatter(0xE500_A000, 0xC000_0000_0000_0001), 0), 0xC000_0000_0000_1001);
+}
+
+/// Stores of the low part of each element of Z1, which holds 00h to 0Fh, the offsets being 0 and 1.
+#[test]
+fn halfwords_and_words() {
+    let cases: [(u32, u64, &[u8]); 12] = [
+        (0xE4A0_8000, 2, &[0, 1, 8, 9]),
+        (0xE480_8000, 2, &[0, 8, 9]),
+        (0xE4A0_A000, 2, &[0, 1, 8, 9]),
+        (0xE480_A000, 2, &[0, 8, 9]),
+        (0xE4E0_8000, 4, &[12, 13, 8, 9]),
+        (0xE4C0_8000, 4, &[12, 13, 9]),
+        (0xE520_8000, 2, &[0, 1, 2, 3, 8, 9, 10, 11]),
+        (0xE500_8000, 2, &[0, 8, 9, 10, 11]),
+        (0xE520_A000, 2, &[0, 1, 2, 3, 8, 9, 10, 11]),
+        (0xE500_A000, 2, &[0, 8, 9, 10, 11]),
+        (0xE560_8000, 4, &[12, 13, 14, 15, 8, 9, 10, 11]),
+        (0xE540_8000, 4, &[12, 13, 14, 15, 11]),
+    ];
+    for (number, (word, count, written)) in cases.into_iter().enumerate() {
+        let class = &CLASSES[12 + number];
+        assert_eq!(class.base, word);
+        let mut store = input(word | 2 << 16 | 1);
+        store.base = 0x1000;
+        store.p.fill(0xFF);
+        (0..16).for_each(|byte| store.z[16 + byte] = byte as u8);
+        // Of doublewords 0 and 1; of words 0, 1, 1 and 0.
+        match count {
+            2 => store.z[32..48].copy_from_slice(&[0, 0, 0, 0, 0, 0, 0, 0, 1, 0, 0, 0, 0, 0, 0, 0]),
+            _ => store.z[32..48].copy_from_slice(&[0, 0, 0, 0, 1, 0, 0, 0, 1, 0, 0, 0, 0, 0, 0, 0]),
+        }
+        let Left { verdict, numbers, memory, .. } = left(&over(16, &store), 1_040);
+        assert_eq!((verdict, numbers[2]), (DONE, count));
+        assert_eq!(numbers[3], count * class.msize as u64 / 8);
+        assert_eq!(memory[..written.len()], *written, "{word:08X}");
+        assert_eq!(memory[written.len()..], vec![0x77; 16 - written.len()], "{word:08X}");
+    }
+}
+
+/// Those of classes 13 to 24 need the SVE flag, and FA64 in streaming mode; SP is checked.
+#[test]
+fn refusals_of_halfwords_and_words() {
+    for class in &CLASSES[12..] {
+        let store = over(256, &input(class.base | 31 << 5));
+        let with = |flags: u32, sp| {
+            let mut store = store.clone();
+            (store.flags, store.sp) = (flags.into(), sp);
+            store.p[0] = 1;
+            store.base = sp;
+            answer(&store).verdict
+        };
+        let [sve, streaming, fa64, checked] = [SVE, STREAMING, FA64, SP_CHECK].map(|bit| 1 << bit);
+        assert_eq!(with(sve, 0x1000), DONE);
+        assert_eq!(with(1 << SME2 | 1 << SVE2P1, 0x1000), UNDEFINED);
+        assert_eq!(with(sve | streaming, 0x1000), ILLEGAL);
+        assert_eq!(with(streaming, 0x1000), UNDEFINED);
+        assert_eq!(with(sve | streaming | fa64, 0x1000), DONE);
+        assert_eq!(with(sve | checked, 0x1000), DONE);
+        assert_eq!(with(sve | checked, 0x1008), STACK);
+        assert_eq!(with(sve | streaming | checked, 0x1008), ILLEGAL);
+    }
 }
 
 #[test]
@@ -264,6 +368,17 @@ fn most_runs() {
     assert_eq!(patch[832..], [0x50, 0x45, 64, 0]);
 }
 
+#[test]
+fn most_runs_of_halfwords_and_words() {
+    for (word, size, length) in [(0xE4C2_8001, 2, 900), (0xE542_8001, 4, 1_028)] {
+        let offsets: Vec<u32> = (0..64).map(|e| (e * 27 + 5) % 64 * (size + 1)).collect();
+        let input = Input { word, ..bytes_at(256, &offsets, &[0xA5; 64]) };
+        let input = over(64 * (size + 1) as usize - 1, &input);
+        assert_eq!(answer(&input), done(64, 64 * u64::from(size), length, 64));
+        assert_eq!(left(&input, length as usize - 1).verdict, NO_ROOM);
+    }
+}
+
 /// The steps of doublewords at these offsets from the window's start, those in the mask active.
 fn steps_of(offsets: &[u64], mask: u64, base: u64, length: usize) -> u64 {
     let vb = 8 * offsets.len();
@@ -350,21 +465,40 @@ fn the_top_of_the_address_space() {
 
 /// Stores of element 0 alone, which lies at `first`, over a window at `base` of so many bytes; each
 /// with its element's bytes.
-fn at(first: u64, base: u64, length: usize) -> [(Input, u64); 4] {
+fn at(first: u64, base: u64, length: usize) -> [(Input, u64); 8] {
     let scalar = |word| scatter(word, first.wrapping_sub(0x1000));
     let mut two = strided(0xA160_6000, 0x0018);
     two.x[0] = first;
     let mut quadword = input(0xE43F_2041); // st1q { z1.q }, p0, [z2.d]
     quadword.p[0] = 1;
     quadword.z[32..40].copy_from_slice(&first.to_le_bytes());
-    let stores = [(scalar(0xE400_A000), 1), (scalar(0xE580_A000), 8), (two, 8), (quadword, 16)];
+    let words = [scalar(0xE500_A000), in_words(0xE540_8000, first)];
+    let halfwords = [scalar(0xE480_A000), in_words(0xE4C0_8000, first)];
+    let ([word, word_s], [halfword, halfword_s]) = (words, halfwords);
+    let stores = [
+        (scalar(0xE400_A000), 1),
+        (halfword, 2),
+        (halfword_s, 2),
+        (word, 4),
+        (word_s, 4),
+        (scalar(0xE580_A000), 8),
+        (two, 8),
+        (quadword, 16),
+    ];
     stores.map(|(input, size)| (over(length, &Input { base, ..input }), size))
+}
+
+/// The same with an element of 32 bits, at offset 0 from X0.
+fn in_words(word: u32, first: u64) -> Input {
+    let mut input = scatter(word, 0);
+    input.x[0] = first;
+    input
 }
 
 /// Document 02 (ii): a doubleword at FFFFFFFFFFFFFFFCh over a 16-byte window ending at 2^64.
 #[test]
 fn a_fault_at_address_0() {
-    let [_, doubleword, strided, quadword] = at(!3, !15, 16);
+    let [.., doubleword, strided, quadword] = at(!3, !15, 16);
     for (store, _) in [doubleword, strided, quadword] {
         assert_eq!(answer(&store), faulting(0, 0));
         assert_eq!(address(&store, 0), 0xFFFF_FFFF_FFFF_FFFC);

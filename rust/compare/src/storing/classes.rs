@@ -1,4 +1,5 @@
-//! The classes of stores as the scope paper's table lists them.
+//! The classes of stores as the scope paper's table lists them; behind it those of halfwords and
+//! words, from document 02 (i).
 
 /// Bits of a word, from the highest to the lowest.
 #[derive(Clone, Copy)]
@@ -70,6 +71,18 @@ pub const CLASSES: &[Class] = &[
     class(0xA160_6000, TWO_IMMEDIATE, 64, 64, Form::Strided { registers: 2, immediate: true }),
     class(0xA160_E000, FOUR_IMMEDIATE, 64, 64, Form::Strided { registers: 4, immediate: true }),
     class(0xE420_2000, PLAIN, 128, 128, Form::Quadword),
+    class(0xE4A0_8000, UNPACKED, 64, 16, Form::Scatter { offset: 32, scale: 1 }),
+    class(0xE480_8000, UNPACKED, 64, 16, Form::Scatter { offset: 32, scale: 0 }),
+    class(0xE4A0_A000, PLAIN, 64, 16, Form::Scatter { offset: 64, scale: 1 }),
+    class(0xE480_A000, PLAIN, 64, 16, Form::Scatter { offset: 64, scale: 0 }),
+    class(0xE4E0_8000, UNPACKED, 32, 16, Form::Scatter { offset: 32, scale: 1 }),
+    class(0xE4C0_8000, UNPACKED, 32, 16, Form::Scatter { offset: 32, scale: 0 }),
+    class(0xE520_8000, UNPACKED, 64, 32, Form::Scatter { offset: 32, scale: 2 }),
+    class(0xE500_8000, UNPACKED, 64, 32, Form::Scatter { offset: 32, scale: 0 }),
+    class(0xE520_A000, PLAIN, 64, 32, Form::Scatter { offset: 64, scale: 2 }),
+    class(0xE500_A000, PLAIN, 64, 32, Form::Scatter { offset: 64, scale: 0 }),
+    class(0xE560_8000, UNPACKED, 32, 32, Form::Scatter { offset: 32, scale: 2 }),
+    class(0xE540_8000, UNPACKED, 32, 32, Form::Scatter { offset: 32, scale: 0 }),
 ];
 
 const fn class(
@@ -103,6 +116,29 @@ pub fn class_of(word: u32) -> Option<usize> {
     CLASSES.iter().position(|class| word & !class.free() == class.base)
 }
 
+/// Words beside the classes of scatter stores that belong to none: scaled stores of bytes, doublewords
+/// out of elements of 32 bits, and 64-bit offsets with bits 22..21 as 10 and 11.
+#[cfg(test)]
+pub const BESIDE: &[u32] = &[
+    0xE420_8000,
+    0xE420_C000,
+    0xE420_A000,
+    0xE460_8000,
+    0xE460_C000,
+    0xE5C0_8000,
+    0xE5C0_C000,
+    0xE5E0_8000,
+    0xE5E0_C000,
+    0xE440_A000,
+    0xE460_A000,
+    0xE4C0_A000,
+    0xE4E0_A000,
+    0xE540_A000,
+    0xE560_A000,
+    0xE5C0_A000,
+    0xE5E0_A000,
+];
+
 #[cfg(test)]
 mod tests {
     use super::*;
@@ -113,8 +149,8 @@ mod tests {
             assert_eq!(class_of(class.base), Some(number));
             assert_eq!(class_of(class.base | class.free()), Some(number));
         }
-        for word in [0xA120_E004, 0xA120_6008, 0xE420_8000, 0, !0] {
-            assert_eq!(class_of(word), None);
+        for word in [0xA120_E004, 0xA120_6008, 0, !0].iter().chain(BESIDE) {
+            assert_eq!(class_of(*word), None);
         }
     }
 }

@@ -39,7 +39,7 @@ fn window(random: &mut Random, class: &Class, vb: usize) -> Window {
     let length = match random.below(32) {
         0..=2 => 0,
         3..=13 => 1 + random.below(class.msize / 8),
-        14 => LONGEST,
+        14 | 15 => LONGEST,
         _ => 1 + random.below(4 * vb),
     };
     Window { base: generate::base(random, length), length }

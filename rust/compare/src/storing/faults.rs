@@ -39,7 +39,10 @@ pub struct Kind {
 }
 
 /// Classes whose elements have several bytes.
-const WIDE: &[u64] = &[1, 2, 3, 4, 8, 9, 10, 11, 12];
+const WIDE: &[u64] =
+    &[1, 2, 3, 4, 8, 9, 10, 11, 12, 13, 14, 15, 16, 17, 18, 19, 20, 21, 22, 23, 24];
+/// Those of them whose elements have more than two.
+const LONG: &[u64] = &[1, 2, 3, 4, 8, 9, 10, 11, 12, 19, 20, 21, 22, 23, 24];
 
 pub const KINDS: &[Kind] = &[
     kind("below the window", CLASS, |input, element| element.end() <= start(input)),
@@ -47,7 +50,7 @@ pub const KINDS: &[Kind] = &[
         let last = element.end() - 1;
         first(element) < start(input) && (start(input)..input.end()).contains(&last)
     }),
-    kind("from below to behind it", WIDE, |input, element| {
+    kind("from below to behind it", LONG, |input, element| {
         let covers = first(element) < start(input) && input.end() < element.end();
         covers && !input.memory.is_empty()
     }),

@@ -52,9 +52,10 @@ fn word(random: &mut Random, class: &Class) -> u32 {
 /// A word that differs from the class's by some fixed bits, or any word.
 pub fn other_word(random: &mut Random, class: &Class, word: u32) -> u32 {
     let any = random.number() as u32;
-    match random.below(4) {
+    match random.below(5) {
         0 => any,
         1 => word ^ any & 0x0000_600C & !class.free(),
+        2 => word ^ any & 0x01E0_0000 & !class.free(),
         _ => word ^ 1 << random.below(32),
     }
 }

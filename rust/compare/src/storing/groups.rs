@@ -1,7 +1,7 @@
 //! What the random stores have to hit.
 
 use super::arm::{self, mask_up_to, maxbit, Element, SP_CHECK, STREAMING};
-use super::classes::{class_of, Form, BASE, CLASSES, R31};
+use super::classes::{class_of, Form, BASE, CLASSES, R31, XS};
 use super::counters::STRIDED;
 use super::effect::Effect;
 use super::joints::joints;
@@ -16,11 +16,20 @@ pub struct Group {
     pub of: fn(&Subject) -> Option<u64>,
 }
 
-pub const CLASS: &[u64] = &[1, 2, 3, 4, 5, 6, 7, 8, 9, 10, 11, 12];
-pub const SCATTER: &[u64] = &[1, 2, 3, 4, 5, 6, 7, 12];
+pub const CLASS: &[u64] =
+    &[1, 2, 3, 4, 5, 6, 7, 8, 9, 10, 11, 12, 13, 14, 15, 16, 17, 18, 19, 20, 21, 22, 23, 24];
+pub const SCATTER: &[u64] =
+    &[1, 2, 3, 4, 5, 6, 7, 12, 13, 14, 15, 16, 17, 18, 19, 20, 21, 22, 23, 24];
 /// Classes whose addresses need not be multiples of anything.
-pub const UNSCALED: &[u64] = &[2, 4, 5, 6, 7, 12];
-const FROM_SP: &[u64] = &[1, 2, 3, 4, 5, 6, 7, 8, 9, 10, 11];
+pub const UNSCALED: &[u64] = &[2, 4, 5, 6, 7, 12, 14, 16, 18, 20, 22, 24];
+/// Those of them whose elements have several bytes.
+const OVERLAPPING: &[u64] = &[2, 4, 12, 14, 16, 18, 20, 22, 24];
+/// Classes with a scalar base and a vector of offsets.
+const FROM_BASE: &[u64] = &[1, 2, 3, 4, 5, 6, 7, 13, 14, 15, 16, 17, 18, 19, 20, 21, 22, 23, 24];
+/// Those of them whose offsets are extended.
+const EXTENDED: &[u64] = &[1, 2, 5, 6, 13, 14, 17, 18, 19, 20, 23, 24];
+const FROM_SP: &[u64] =
+    &[1, 2, 3, 4, 5, 6, 7, 8, 9, 10, 11, 13, 14, 15, 16, 17, 18, 19, 20, 21, 22, 23, 24];
 const VERDICT: &[u64] = &[0, 1, 2, 3, 4, 5, 6, 7];
 const VB: &[u64] = &[16, 32, 64, 128, 256];
 const SIZE: &[u64] = &[0, 8, 16, 32, 64];
@@ -44,6 +53,30 @@ pub const GROUPS: &[Group] = &[
     group("VB 64, class, done", CLASS, |s| s.class_where(|s, _| s.input.vb == 64)),
     group("VB 128, class, done", CLASS, |s| s.class_where(|s, _| s.input.vb == 128)),
     group("VB 256, class, done", CLASS, |s| s.class_where(|s, _| s.input.vb == 256)),
+    group("VB 16, class, UXTW of 2^31 and more, done", EXTENDED, |s| s.extended_at(16, 0)),
+    group("VB 32, class, UXTW of 2^31 and more, done", EXTENDED, |s| s.extended_at(32, 0)),
+    group("VB 64, class, UXTW of 2^31 and more, done", EXTENDED, |s| s.extended_at(64, 0)),
+    group("VB 128, class, UXTW of 2^31 and more, done", EXTENDED, |s| s.extended_at(128, 0)),
+    group("VB 256, class, UXTW of 2^31 and more, done", EXTENDED, |s| s.extended_at(256, 0)),
+    group("VB 16, class, SXTW below 0, done", EXTENDED, |s| s.extended_at(16, 1)),
+    group("VB 32, class, SXTW below 0, done", EXTENDED, |s| s.extended_at(32, 1)),
+    group("VB 64, class, SXTW below 0, done", EXTENDED, |s| s.extended_at(64, 1)),
+    group("VB 128, class, SXTW below 0, done", EXTENDED, |s| s.extended_at(128, 1)),
+    group("VB 256, class, SXTW below 0, done", EXTENDED, |s| s.extended_at(256, 1)),
+    group("class, scaled offset past 2^64, done", &[3, 15, 21], |s| {
+        s.class_where(|s, _| s.offsets().any(|(_, scaled)| scaled >= 1 << 64))
+    }),
+    group("class, base and offset past 2^64, done", FROM_BASE, |s| {
+        s.class_where(|s, _| s.sums().any(|sum| sum >= 1 << 64))
+    }),
+    group("class, base and offset below 0, done", EXTENDED, |s| {
+        s.class_where(|s, _| s.sums().any(|sum| sum < 0))
+    }),
+    group("class, streaming with FA64, done", SCATTER, |s| {
+        s.class_where(|s, _| s.streaming(false) == Some(3))
+    }),
+    group("class, SP as base, done", FROM_SP, |s| s.class_where(|s, _| s.is_from_sp())),
+    group("word of no class, by its place", &[1, 2, 3, 4, 5, 6], |s| s.beside()),
     group("counter's size, bit 15 clear", SIZE, |s| s.counter_size(false)),
     group("counter's size, bit 15 set", SIZE, |s| s.counter_size(true)),
     group("VB, counter's highest bit decides", VB, |s| s.counter_decided(|vb| maxbit(vb) - 1)),
@@ -74,13 +107,15 @@ pub const GROUPS: &[Group] = &[
     group("element passes 2^64, fault", ONCE, |s| once(s.passes_the_top())),
     group("fault at the first, a later, the last element", &[0, 1, 2], |s| s.faulting()),
     group("byte of 1 that faults", &[0], |s| s.byte_that_faults(1, false)),
+    group("byte of 2 that faults", &[0, 1], |s| s.byte_that_faults(2, false)),
+    group("byte of 4 that faults", &[0, 1, 2, 3], |s| s.byte_that_faults(4, false)),
     group("byte of 8 that faults", BYTE_OF_8, |s| s.byte_that_faults(8, false)),
     group("byte of 8 that faults, strided", BYTE_OF_8, |s| s.byte_that_faults(8, true)),
     group("byte of 16 that faults", BYTE_OF_16, |s| s.byte_that_faults(16, false)),
     group("address below its base, done", ONCE, |s| s.once(|s, _| s.is_below_base())),
     group("runs", RUNS, |s| s.done(|effect| effect.runs as u64)),
     group("bytes in runs", PAYLOAD, |s| s.done(|effect| effect.payload() as u64)),
-    group("patch's length", &[4, 17, 24, 32, 836, 1040], |s| {
+    group("patch's length", &[4, 17, 18, 20, 24, 32, 836, 900, 1028, 1040], |s| {
         s.done(|effect| effect.patch.len() as u64)
     }),
     group("steps", STEPS, |s| s.done(|effect| effect.steps as u64)),
@@ -105,7 +140,7 @@ pub const GROUPS: &[Group] = &[
     group("class, elements at the same address", SCATTER, |s| {
         s.class_where(|s, _| neighbours(s).any(|(step, _)| step == 0))
     }),
-    group("class, elements overlap in part", &[2, 4, 12], |s| {
+    group("class, elements overlap in part", OVERLAPPING, |s| {
         s.class_where(|s, _| neighbours(s).any(|(step, size)| 0 < step && step < size))
     }),
     group("class, elements touch", SCATTER, |s| {
@@ -182,6 +217,57 @@ impl Subject {
 
     fn done(&self, number: impl FnOnce(&Effect) -> u64) -> Option<u64> {
         self.right.as_ref().ok().map(number)
+    }
+
+    /// The offsets of the active elements of a scatter from a base, and the same scaled, as numbers.
+    fn offsets(&self) -> impl Iterator<Item = (i128, i128)> + '_ {
+        let class = class_of(self.input.word).map(|number| &CLASSES[number]);
+        let active = self.elements().iter().enumerate().filter(|(_, element)| element.active);
+        active.filter_map(move |(e, _)| match class?.form {
+            Form::Scatter { offset: size, scale } => {
+                let offset = arm::offset(&self.input, class?, size, e);
+                Some((offset, offset << scale))
+            }
+            _ => None,
+        })
+    }
+
+    /// The bases with the scaled offsets.
+    fn sums(&self) -> impl Iterator<Item = i128> + '_ {
+        let base = i128::from(arm::base(&self.input));
+        self.offsets().map(move |(_, scaled)| base + scaled)
+    }
+
+    /// The class of a done store, where vectors have so many bytes, with an offset that UXTW (0) and
+    /// SXTW (1) extend to different numbers.
+    fn extended_at(&self, vb: usize, xs: usize) -> Option<u64> {
+        self.class_where(|s, _| {
+            let tells = |(offset, _): (i128, i128)| !(0..1 << 31).contains(&offset);
+            s.input.vb == vb && XS.of(s.input.word) == xs && s.offsets().any(tells)
+        })
+    }
+
+    /// Whether SP is the base of an active element.
+    fn is_from_sp(&self) -> bool {
+        BASE.of(self.input.word) == R31 && self.active().next().is_some()
+    }
+
+    /// Which place beside the classes of scatter stores an undefined word has: scaled bytes in elements
+    /// of 64 bits with 32-bit offsets (1) and with 64-bit ones (2), and in elements of 32 bits (3);
+    /// doublewords in elements of 32 bits (4); 64-bit offsets with bits 22..21 as 10 (5) or 11 (6).
+    fn beside(&self) -> Option<u64> {
+        let word = self.input.word;
+        let undefined = self.verdict() == UNDEFINED && word >> 25 == 0b111_0010;
+        match (word >> 23 & 3, word >> 21 & 3, word >> 13 & 7) {
+            _ if !undefined => None,
+            (0, 1, 4 | 6) => Some(1),
+            (0, 1, 5) => Some(2),
+            (0, 3, 4 | 6) => Some(3),
+            (3, 2 | 3, 4 | 6) => Some(4),
+            (_, 2, 5) => Some(5),
+            (_, 3, 5) => Some(6),
+            _ => None,
+        }
     }
 
     /// Whether all elements are active, each where the one before it ends.

@@ -6,6 +6,7 @@ mod counters;
 mod elements;
 mod faults;
 mod memory;
+mod narrow;
 mod patches;
 mod steps;
 mod verdicts;
@@ -105,6 +106,6 @@ fn what_is_hit() {
     compare(&few, &starshackle::store_numbers, 1_000, 1).print(&few);
     assert!(few.differences() == 0 && few.misses() > 0);
     let enough = Report::default();
-    compare(&enough, &starshackle::store_numbers, 60_000, 2).print(&enough);
+    compare(&enough, &starshackle::store_numbers, 200_000, 2).print(&enough);
     assert_eq!((enough.differences(), enough.misses()), (0, 0));
 }
