@@ -2,16 +2,11 @@
 mod stores;
 
 ghost use mathlib.Core.Path.{_≡_};
-ghost use mathlib.Core.Bool.{not};
-ghost use mathlib.Core.List.{List};
-ghost use Rattle.writes.specs.Elements.{Element};
 ghost use Rattle.elements.specs.Machine.{machine};
-ghost use Rattle.verdicts.specs.Verdicts.{lengthOk, flagOn, illegal, someActive, stack};
 ghost use Rattle.checks.specs.Checking.{CheckedAs};
 use elements::StridedAccess;
 use elements::VectorAccess;
 use encoding::Decoded;
-use encoding::Feature;
 use verdicts::Flags;
 use verdicts::Refusal;
 
@@ -20,41 +15,6 @@ pub enum Checked {
     Refused { refusal: Refusal },
     Vector { access: VectorAccess },
     Strided { access: StridedAccess },
-}
-
-pub fn length_ok(vb: usize) -> bool
-    ensures { λ r. ⌜ r ≡ lengthOk vb ⌝ }
-{
-    (vb == 16) | (vb == 32) | (vb == 64) | (vb == 128) | (vb == 256)
-}
-
-// Whether a feature is off.
-fn is_off(flags: Flags, feature: Feature) -> bool
-    ensures { λ r. ⌜ r ≡ not (flagOn flags feature) ⌝ }
-{
-    match feature {
-        Feature::SVE => !flags.sve,
-        Feature::SME2 => !flags.sme2,
-        Feature::SVE2p1 => !flags.sve2p1,
-    }
-}
-
-// Whether a store of a class with this feature is illegal.
-fn is_illegal(flags: Flags, feature: Feature) -> bool
-    ensures { λ r. ⌜ r ≡ illegal flags feature ⌝ }
-{
-    match feature {
-        Feature::SVE => flags.streaming & !flags.fa64,
-        Feature::SME2 => !flags.streaming,
-        Feature::SVE2p1 => flags.streaming & !flags.fa64,
-    }
-}
-
-// Whether the stack check refuses a store, by whether its base is SP and it has active elements.
-fn is_stack(flags: Flags, sp: u64, on_stack: bool, some: bool) -> bool
-    ensures { λ r. ⌜ ((es : List Element) → some ≡ someActive es → r ≡ stack flags sp «on_stack» es) ⌝ }
-{
-    on_stack & flags.sp_check & (sp % 16 != 0) & (some | flags.sp_check_none_active)
 }
 
 // Checks 1 to 6 for the store that a word is, with a window of `length` bytes at `base`.
@@ -71,7 +31,7 @@ pub fn check(
 ) -> Checked
     ensures { λ r. ⌜ CheckedAs flags (machine vb (now (x .entry)) sp (now (z .entry)) (now (p .entry))) base length word r ⌝ }
 {
-    if !length_ok(vb) {
+    if !conditions::length_ok(vb) {
         return Checked::Refused {
             refusal: Refusal::Length,
         };

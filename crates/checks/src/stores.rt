@@ -12,9 +12,9 @@ ghost use Rattle.elements.specs.Accesses.{VectorSound, vectorElements, StridedS
 ghost use Rattle.verdicts.specs.Verdicts.{onStack, someActive, stack};
 ghost use Rattle.checks.specs.Checking.{Sound, AccessSound, accessFor, elementsIn, checkedFor};
 use super::Checked;
-use super::is_illegal;
-use super::is_off;
-use super::is_stack;
+use conditions::is_illegal;
+use conditions::is_off;
+use conditions::is_stack;
 use elements::StridedAccess;
 use elements::VectorAccess;
 use encoding::Feature;

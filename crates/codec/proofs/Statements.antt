@@ -11,6 +11,7 @@ use lib.IntN.{ℤ}
 use lib.ListN.{length}
 use mir.Syntax.{w64}
 use mir.Val.{SFits}
+use mir.Facts.{sfits-widen}
 use mir.ValLaws.{toZ-ofZ, ofZ-toZ}
 use borrow.Author.Tests.{eq-eqb, ne-eqb, lt-ltb, ltb-true, ltb-false}
 use Rattle.encoding.specs.Classes.{imm4, Class, classAt, read}
@@ -33,6 +34,7 @@ use Rattle.encoding.proofs.Signed.{multiple-fits}
 use Rattle.encoding.proofs.Statements.{decoded-index, encodes-decoded, decodes-encoded, refused-for-a-cause, known-accepted, accepted}
 use Rattle.encoding.proofs.Statements.{class-numbered}
 use Rattle.codec.specs.Codec.{entry, extensionGiven, storeGiven, surplus, misgiven, featureGiven, encodeGiven, encodedAnswers}
+use Rattle.codec.proofs.Given.{three, not-other, neither}
 use Rattle.codec.specs.Statements.{EncodesDecodedNumbers, DecodesEncodedNumbers, RefusesNumbers}
 
 -- ---- a store's numbers give it back
@@ -93,7 +95,7 @@ read-small c w s = omega (arith, mod-lt (w / 2 ^ 16) (s .imm4 .0), s .imm4 .1)
 
 bits-as : (x : Feature) (c : Class) (w : ℕ) → Small c → Bits (storeAs x c w)
 bits-as SVE c w s = tt
-bits-as SME2 c w s = multiple-fits (c .nreg) (read c imm4 w) (s .nreg) (read-small c w s)
+bits-as SME2 c w s = sfits-widen tt (multiple-fits (c .nreg) (read c imm4 w) (s .nreg) (read-small c w s))
 bits-as SVE2p1 c w s = tt
 
 bits-decoded : (w : ℕ) (s : Store) → decodeOf w ≡ Known s → Bits s
@@ -141,22 +143,6 @@ number-back zero h = refl
 number-back (suc zero) h = refl
 number-back (suc (suc zero)) h = refl
 number-back (suc (suc (suc n))) h = absurd (omega arith)
-
--- entries that aren't misgiven
-three : (a b c : Bool) → not a || b || c ≡ false → T a × (b ≡ false) × (c ≡ false)
-three true false false e = (tt, refl, refl)
-three true false true e = absurd (true≢false e)
-three true true c e = absurd (true≢false e)
-three false b c e = absurd (true≢false e)
-
-not-other : (a : Bool) → not a ≡ false → T a
-not-other true e = tt
-not-other false e = absurd (true≢false e)
-
-neither : (a b : Bool) → not a || not b ≡ false → T a × T b
-neither true true e = (tt, tt)
-neither true false e = absurd (true≢false e)
-neither false b e = absurd (true≢false e)
 
 module _ (es : List ℕ) (l : length es ≡ 8) (b : (i : ℕ) → entry es i < 2 ^ 64) where
   zero-at : (i : ℕ) → T (eqb (entry es i) 0) → 0 ≡ entry es i

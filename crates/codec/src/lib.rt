@@ -6,7 +6,7 @@ ghost use mathlib.Core.List.{_∷_, []};
 ghost use Rattle.encoding.specs.declared.Feature.the-variants.{SVE, SME2, SVE2p1};
 ghost use Rattle.encoding.specs.Answers.{extensionNumber, storeNumbers};
 ghost use Rattle.codec.specs.Codec.{entry, extensionGiven, storeGiven, misgiven, encodeGiven};
-ghost use Rattle.codec.specs.Narrow.{narrow, Narrow};
+ghost use Rattle.codec.specs.Narrow.{signedByte, narrow, Narrow};
 use encoding::Encoded;
 use encoding::Extension;
 use encoding::Feature;
@@ -81,7 +81,7 @@ pub fn numbers_of(store: Store) -> [u64; 8]
             let extension = f.extension;
             scatter_numbers(f, number_of(extension))
         }
-        Store::Strided(f) => strided_numbers(f, bits_of(f.multiple)),
+        Store::Strided(f) => strided_numbers(f, bits_of(f.multiple as i64)),
         Store::Quadword(f) => quadword_numbers(f),
     }
 }
@@ -99,6 +99,13 @@ fn extension_of(n: u64) -> Extension
     }
 }
 
+// Whether 64 bits, read as signed, are -128..127.
+fn is_signed_byte(bits: u64) -> bool
+    ensures { λ r. ⌜ r ≡ signedByte bits ⌝ }
+{
+    std::num::wrapping_add_u64(bits, 128) < 256
+}
+
 // Whether the entries that a store keeps in a byte fit one.
 fn is_narrow(fields: &[u64; 8]) -> bool
     ensures { λ r. ⌜ r ≡ narrow (now (fields .entry)) ⌝ }
@@ -108,6 +115,7 @@ fn is_narrow(fields: &[u64; 8]) -> bool
         & (fields[3] < 256)
         & (fields[4] < 256)
         & (fields[5] < 256)
+        & is_signed_byte(fields[6])
 }
 
 // Whether the entries give no store of a class with this feature.
@@ -148,7 +156,7 @@ fn strided_given(fields: &[u64; 8]) -> StridedFields
     StridedFields {
         class: fields[0] as u8,
         rm: fields[1] as u8,
-        multiple: signed_of(fields[6]),
+        multiple: signed_of(fields[6]) as i8,
         pc: fields[3] as u8,
         rn: fields[4] as u8,
         first: fields[5] as u8,

@@ -113,3 +113,16 @@ module _ (W : ℕ) (mem : List ℕ) (J₀ : List Interval) (out₀ : List ℕ) (
 
     pub composing-left : at + 4 ≤ length out
     composing-left = omega (arith, c .sum, c .long)
+
+-- ---- one run, and the trailer
+
+pub composed-one : (W : ℕ) (mem out : List ℕ) (a n : ℕ) → 1 ≤ n → a + n ≤ length mem → n + 16 ≤ length out → (out′ out″ : List ℕ)
+    → out′ ≡ overwritten out 0 (runBytes W mem a n) → out″ ≡ overwritten out′ (n + 12) (trailer 1)
+    → out″ ≡ overwritten out 0 (encodeRuns (cut W mem (interval a n ∷ [])))
+unfolding total
+composed-one W mem out a n h l r out′ out″ p q =
+    let J : List Interval = interval a n ∷ [] in
+    let room : total J + 4 ≤ length out = omega arith in
+    let first = composing-first W mem J out room J refl (omega arith, h, l, tt) in
+    let next = composing-next W mem J out room J out 0 0 first a n [] out′ (n + 12) refl p (omega arith) in
+    composing-done W mem J out room [] out′ (n + 12) 1 next refl out″ q .1

@@ -6,7 +6,7 @@ ghost use lib.ListN.{length};
 ghost use Rattle.writes.specs.Encoding.{trailer, encodeRuns};
 ghost use Rattle.endian.specs.Overwriting.{overwritten};
 ghost use Rattle.ordering.specs.Keys.{entries};
-ghost use Rattle.stretches.specs.Intervals.{Separate, total};
+ghost use Rattle.stretches.specs.Intervals.{interval, Separate, total};
 ghost use Rattle.stretches.specs.Stretches.{merged, Ordered};
 ghost use Rattle.cutting.specs.Cutting.{headBytes, part, runBytes, cut, spaced};
 
@@ -117,6 +117,18 @@ pub fn compose(w: u64, stretches: &[u32], m: usize, memory: &[u8], out: &mut [u8
     }
     put_trailer(out, to, runs);
     to + 4
+}
+
+// The patch of one run, n bytes from offset a on. Answers its length.
+pub fn compose_one(w: u64, a: usize, n: usize, memory: &[u8], out: &mut [u8]) -> usize
+    requires { ⌜ (1 ≤ n) × (a + n ≤ length (now memory)) × (n + 16 ≤ length (now out)) × (w + length (now memory) ≤ 2 ^ 64) ⌝ }
+    ensures { λ r. ⌜ r ≡ n + 16 ⌝ }
+    ensures { λ _.
+        ⌜ now (out .exit) ≡ overwritten (now (out .entry)) 0 (encodeRuns (cut w (now (memory .entry)) (interval a n ∷ []))) ⌝ }
+{
+    put_run(out, 0, w, memory, a, a + n);
+    put_trailer(out, n + 12, 1);
+    n + 16
 }
 
 // A patch's length, and how many steps it took.

@@ -1,21 +1,21 @@
 -- What the classes of each feature are like, computed over the table, and what a store that isn't refused has in its fields.
 -- Assumes nothing.
-use mathlib.Core.Path.{_≡_, refl, ap, _∙_, subst}
+use mathlib.Core.Path.{_≡_, refl, subst}
 use mathlib.Core.Bool.{Bool, true, false, not, cond, _||_}
 use mathlib.Core.List.{List, [], _∷_}
 use mathlib.Core.Logic.{_⊎_, inl, inr}
-use Prim.Native.Nat.{ℕ, zero, suc, _-_, _*_, _/_, _%_, _^_, _≤_, _<_}
-use native.Mathlib.Nat.{mul-le-mul, one-le-pow}
+use Prim.Native.Nat.{ℕ, _*_, _/_, _%_, _^_, _≤_, _<_}
+use native.Mathlib.Nat.{one-le-pow}
 use native.Mathlib.Omega.{arith}
-use borrow.Author.Tests.{ltb-true, ltb-false, eqb-true}
+use borrow.Author.Tests.{eqb-true}
 use lib.Dec.{T, eqb, ltb, leb, eqb→eq, leb→le, ltb→lt, lit<}
-use lib.IntN.{ℤ, pos, negℤ, natAbs}
+use lib.IntN.{natAbs}
 use lib.ListN.{length, getD}
 use Rattle.encoding.specs.Classes as C
 use Rattle.encoding.specs.Classes.{Zm, imm4, xs, Field, size, Class, classes, classAt, noClass, any, has, width}
 use Rattle.encoding.specs.declared.Feature.{Feature}
 use Rattle.encoding.specs.declared.Feature.the-variants.{SVE, SME2, SVE2p1}
-use Rattle.encoding.specs.Decoding.{ztOf, multipleOf}
+use Rattle.encoding.specs.Decoding.{ztOf}
 use Rattle.encoding.specs.Encoding.{Value, _is_, numbersIn, immOf, rowFor, classFor, refused, misextends}
 use Rattle.encoding.specs.declared.Extension.{Extension}
 use Rattle.encoding.specs.declared.Extension.the-variants.{None, Uxtw, Sxtw}
@@ -28,7 +28,7 @@ use Rattle.encoding.proofs.Tests.{every, every-at, yes}
 use Rattle.encoding.proofs.Rows.{Small, small-at, row-holds}
 use Rattle.encoding.proofs.Causes.{fits, in-range, is-named, is-extended}
 use Rattle.encoding.proofs.Inverse.{named-parts}
-use Rattle.encoding.proofs.Signed.{multiple-imm, multiple-low, multiple-high}
+use Rattle.encoding.proofs.Signed.{named-small}
 use Rattle.encoding.proofs.Statements.{accepted}
 use Rattle.elements.specs.Stores.{stepOf, sizeOf, strideOf}
 use Rattle.elements.specs.Accesses.{offsetBytes, otherStep, isWidth}
@@ -196,22 +196,6 @@ quadword-in f e =
       whole = eqb→eq (sizeOf c) 16 (t 3 (lit< tt));
     }
 
--- imm4's multiples are small
-small-multiple : (m v : ℕ) → m ≤ 4 → v < 16 → natAbs (multipleOf m v) ≤ 64
-small-multiple m v hm hv = go (ltb v 8) refl
-  where
-    abs-neg : (n : ℕ) → natAbs (negℤ (pos n)) ≡ n
-    abs-neg zero = refl
-    abs-neg (suc n) = refl
-
-    size : (a : ℕ) → a ≤ 16 → a * m ≤ 64
-    size a h = mul-le-mul h hm
-
-    go : (b : Bool) → ltb v 8 ≡ b → natAbs (multipleOf m v) ≤ 64
-    go true e = omega (arith, ap natAbs (multiple-low m v (ltb-true v 8 e)), size v (omega arith))
-    go false e =
-        omega (arith, ap natAbs (multiple-high m v (ltb-false v 8 e) hv) ∙ abs-neg ((16 - v) * m), size (16 - v) (omega arith))
-
 pub record StridedIn (f : StridedFields) (c : Class) : Type 0 where
   pub rm : f .rm < 32
   pub pc : f .pc < 8
@@ -241,13 +225,11 @@ strided-in f e =
     let low = f .first % 16 in
     let zt = 2 ^ width c (ztOf c) in
     let p = named-parts (ltb high (2 ^ width c C.T)) (ltb low zt) (ltb i n) (is-named c (Strided f) (a .1)) in
-    let q = multiple-imm (c .nreg) n (f .multiple) (ltb→lt i n (p .2)) in
-    let m = small-multiple (c .nreg) i (b .nreg) (omega (arith, b .imm4 .1, ltb→lt i n (p .2))) in
     record {
       rm = r 0 (lit< tt);
       pc = r 1 (lit< tt);
       rn = r 2 (lit< tt);
-      multiple = subst (λ (y : ℤ). natAbs y ≤ 64) q m;
+      multiple = named-small (c .nreg) n (f .multiple) (b .nreg) (b .imm4 .1) (ltb→lt i n (p .2));
       small = b;
       eight = eqb→eq (stepOf c * 8) (c .esize) (t 0 (lit< tt));
       nreg = ltb→lt 0 (c .nreg) (t 1 (lit< tt));

@@ -65,8 +65,8 @@ strideOf c = cond (eqb (c .nreg) 2) 8 4
 abbrev pub startOf : Machine → Class → ℕ → ℕ → ℤ → ℕ
 startOf m c rn rm multiple = baseOf m rn + cond (has c Rm) (indexOf m rm * 2 ^ c .scale) (ofZ w64 (multiple *ℤ pos (m .vb)))
 
--- "all modulo 2^64. Classes 1 to 7: base plus offset times 2^scale", and 13 to 24 (document 02 (i)); "Class 12: 64-bit element 2e of Zn plus X[m]"; strided "then 8
--- more for each element, active or not"
+-- "all modulo 2^64. Classes 1 to 7: base plus offset times 2^scale", and 13 to 24 (document 02 (i)); "Class 12: 64-bit element 2e of Zn
+-- plus X[m]"; strided "then 8 more for each element, active or not"
 abbrev pub addressIn : Machine → Class → Store → ℕ → ℕ
 addressIn m c (Scatter f) e =
     (baseOf m (f .rn) + offsetOf (f .extension) (elementIn (vector m (f .zm)) (stepOf c) e) * 2 ^ c .scale) % 2 ^ 64

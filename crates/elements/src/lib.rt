@@ -236,7 +236,7 @@ pub fn start_of(f: StridedFields, vb: usize, x: &[u64; 31], sp: u64) -> u64
 {
     let start = general(x, sp, f.rn);
     if encoding::number_for(f.class, Number::RmValues) == 1 {
-        return displaced(start, f.multiple, vb);
+        return displaced(start, f.multiple as i64, vb);
     }
     let index = general(x, 0, f.rm);
     let scale = encoding::number_for(f.class, Number::Scale);

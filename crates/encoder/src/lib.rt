@@ -117,7 +117,7 @@ fn encode_strided(f: StridedFields) -> Encoded
         return Encoded::Fields;
     }
     let layout = layout_of(k);
-    let imm4 = imm4_of(layout.nreg, layout.imm4, f.multiple);
+    let imm4 = imm4_of(layout.nreg, layout.imm4, f.multiple as i64);
     if strided_fits(f, imm4, layout) {
         Encoded::Word(base_of(k) + strided_sum(f, imm4))
     } else {

@@ -2,13 +2,15 @@
 use mathlib.Core.Path.{_≡_, refl, sym, ap, _∙_, subst}
 use mathlib.Core.Bool.{Bool, true, false, true≢false, false≢true}
 use Prim.Native.Nat.{ℕ, zero, suc, _-_, _*_, _/_, _^_, _≤_, _<_}
-use native.Mathlib.Nat.{mul-div-cancel, not-suc-le-zero, one-mul, mul-le-mul-left, mul-le-mul-right, lt-of-lt-of-le}
+use native.Mathlib.Nat.{mul-div-cancel, not-suc-le-zero, one-mul, mul-le-mul, mul-le-mul-right, lt-of-lt-of-le}
 use native.Mathlib.Omega.{arith}
+use borrow.Author.Tests.{ltb-true, ltb-false}
 use lib.Dec.{T, ltb, eqb→eq, eqb-refl, lt→ltb, ltb→lt, leb·zero}
 use lib.IntN.{ℤ, pos, negsuc, negℤ, natAbs, _-ℤ_, _*ℤ_, +ℤ-idl}
 use lib.Signed.{leZ, nonNeg}
-use mir.Syntax.{w64}
+use mir.Syntax.{w8, w64}
 use mir.Val.{SFits, Fits, toZ, ofZ}
+use mir.Facts.{sfits-widen}
 use mir.ValLaws.{toZ-pos, toZ-ofZ}
 use Rattle.encoding.specs.Decoding.{multipleOf}
 use Rattle.encoding.specs.Encoding.{eqℤ, immOf}
@@ -62,7 +64,7 @@ module _ (m : ℕ) (hm : 0 < m) where
       go : (b : Bool) → ltb v 8 ≡ b → back m (multipleOf m v) ≡ v
       go true e = ap (back m) (multiple-low m v (ltb→lt v 8 (subst T (sym e) tt))) ∙ mul-div-cancel v hm
       go false e =
-          let l : 8 ≤ v = omega (arith, borrow.Author.Tests.ltb-false v 8 e) in
+          let l : 8 ≤ v = omega (arith, ltb-false v 8 e) in
           ap (back m) (multiple-high m v l hv)
           ∙ back-neg m ((16 - v) * m) (mul-pos (16 - v) m (omega arith) hm)
           ∙ ap (λ (x : ℕ). 16 - x) (mul-div-cancel (16 - v) hm)
@@ -83,6 +85,54 @@ pub multiple-imm : (m n : ℕ) (z : ℤ) → immOf m n z < n → multipleOf m (i
 unfolding immOf
 multiple-imm m n z h = eqℤ→eq (multipleOf m (immOf m n z)) z (lowest-holds (λ v. eqℤ (multipleOf m v) z) n h)
 
+-- imm4's multiples are small
+small-multiple : (m v : ℕ) → m ≤ 4 → v < 16 → natAbs (multipleOf m v) ≤ 64
+small-multiple m v hm hv = go (ltb v 8) refl
+  where
+    abs-neg : (n : ℕ) → natAbs (negℤ (pos n)) ≡ n
+    abs-neg zero = refl
+    abs-neg (suc n) = refl
+
+    size : (a : ℕ) → a ≤ 16 → a * m ≤ 64
+    size a h = mul-le-mul h hm
+
+    go : (b : Bool) → ltb v 8 ≡ b → natAbs (multipleOf m v) ≤ 64
+    go true e = omega (arith, ap natAbs (multiple-low m v (ltb-true v 8 e)), size v (omega arith))
+    go false e =
+        omega (arith, ap natAbs (multiple-high m v (ltb-false v 8 e) hv) ∙ abs-neg ((16 - v) * m), size (16 - v) (omega arith))
+
+pub named-small : (m n : ℕ) (z : ℤ) → m ≤ 4 → n ≤ 16 → immOf m n z < n → natAbs z ≤ 64
+named-small m n z hm hn h =
+    subst (λ (y : ℤ). natAbs y ≤ 64) (multiple-imm m n z h) (small-multiple m (immOf m n z) hm (omega arith))
+
+-- ---- numbers of 8 bits
+
+pub small-fits : (z : ℤ) → natAbs z ≤ 64 → SFits w8 z
+small-fits (pos n) h = record { sfits = omega arith }
+small-fits (negsuc n) h = record { sfits = omega arith }
+
+pub multiple-fits : (m v : ℕ) → m ≤ 4 → v < 16 → SFits w8 (multipleOf m v)
+multiple-fits m v hm hv = small-fits (multipleOf m v) (small-multiple m v hm hv)
+
+-- as the code narrows them from 64 bits: r is the number z
+module _ (r z : ℤ) (f : SFits w64 r) (e : r ≡ z) (g : SFits w8 z) where
+  whole : toZ w64 (ofZ w64 r) ≡ z
+  whole = toZ-ofZ w64 r f ∙ e
+
+  pub narrow-fits : SFits w8 (toZ w64 (ofZ w64 r))
+  narrow-fits = subst (SFits w8) (sym whole) g
+
+  pub narrow-is : toZ w8 (ofZ w8 (toZ w64 (ofZ w64 r))) ≡ z
+  narrow-is = ap (λ (y : ℤ). toZ w8 (ofZ w8 y)) whole ∙ toZ-ofZ w8 z g
+
+-- and as it widens them
+module _ (z : ℤ) (f : SFits w8 z) where
+  pub wide-fits : SFits w64 (toZ w8 (ofZ w8 z))
+  wide-fits = subst (SFits w64) (sym (toZ-ofZ w8 z f)) (sfits-widen tt f)
+
+  pub wide-is : toZ w64 (ofZ w64 (toZ w8 (ofZ w8 z))) ≡ z
+  wide-is = ap (λ (y : ℤ). toZ w64 (ofZ w64 y)) (toZ-ofZ w8 z f) ∙ toZ-ofZ w64 z (sfits-widen tt f)
+
 -- ---- bits
 
 module _ (n : ℕ) (h : n < 2 ^ 63) where
@@ -95,18 +145,6 @@ module _ (n : ℕ) (h : n < 2 ^ 63) where
 neg-small : (n : ℕ) → n < 2 ^ 63 → SFits w64 (negℤ (pos n))
 neg-small zero h = record { sfits = omega arith }
 neg-small (suc n) h = record { sfits = omega arith }
-
--- a multiple has 64 bits
-pub multiple-fits : (m v : ℕ) → m ≤ 4 → v < 16 → SFits w64 (multipleOf m v)
-multiple-fits m v hm hv = go (ltb v 8) refl
-  where
-    go : (b : Bool) → ltb v 8 ≡ b → SFits w64 (multipleOf m v)
-    go true e =
-        subst (SFits w64) (sym (multiple-low m v (ltb→lt v 8 (subst T (sym e) tt))))
-        (record { sfits = omega (arith, mul-le-mul-left v hm) })
-    go false e =
-        subst (SFits w64) (sym (multiple-high m v (borrow.Author.Tests.ltb-false v 8 e) hv))
-        (neg-small ((16 - v) * m) (omega (arith, mul-le-mul-left (16 - v) hm)))
 
 module _ (n : ℕ) (h : n < 2 ^ 63) where
   pub neg-fits : SFits w64 (pos 0 -ℤ toZ w64 n)

@@ -44,7 +44,7 @@ pub struct StridedFields {
     pub class: u8,
     pub rm: u8,
     // imm4 read as -8..7 times the number of registers; 0 where the class has no imm4.
-    pub multiple: i64,
+    pub multiple: i8,
     // The counter's predicate register less 8.
     pub pc: u8,
     pub rn: u8,
@@ -153,7 +153,7 @@ fn strided(k: usize, word: u32) -> StridedFields
     StridedFields {
         class: (k + 1) as u8,
         rm: (word / 65536 % layout.rm) as u8,
-        multiple,
+        multiple: multiple as i8,
         pc: (word / 1024 % 8) as u8,
         rn: (word / 32 % 32) as u8,
         first: (word / 16 % 2 * 16 + word % layout.zt) as u8,
@@ -204,5 +204,5 @@ pub fn number_for(class: u8, number: Number) -> u32
     requires { ⌜ rowNumbered class < length classes ⌝ }
     ensures { λ r. ⌜ r ≡ numberIn (classNumbered class) number ⌝ }
 {
-    number_at(row_numbered(class), number)
+    number_at((class - 1) as usize, number)
 }

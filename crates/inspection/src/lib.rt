@@ -116,7 +116,7 @@ pub fn inspect(
 ) -> Inspected
     ensures { λ r. ⌜ r ≡ inspectedOf (machine vb (now (x .entry)) sp (now (z .entry)) (now (p .entry))) word e ⌝ }
 {
-    if !checks::length_ok(vb) {
+    if !conditions::length_ok(vb) {
         return Inspected::Length;
     }
     if z.len() != 32 * vb {

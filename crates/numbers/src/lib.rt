@@ -39,20 +39,6 @@ fn refusal_number(r: Refusal) -> u64
     }
 }
 
-pub fn number_of(v: Verdict) -> u64
-    ensures { λ n. ⌜ n ≡ number v ⌝ }
-{
-    match v {
-        Verdict::Done {
-            elements: _,
-            bytes: _,
-            length: _,
-            steps: _,
-        } => 0,
-        Verdict::Refused { refusal } => refusal_number(refusal),
-    }
-}
-
 // Element and address of a refusal's detail.
 fn detail_of(r: Refusal) -> [u64; 2]
     ensures { λ a. ⌜ a ≡ detail r ⌝ }
@@ -69,9 +55,11 @@ fn detail_of(r: Refusal) -> [u64; 2]
     }
 }
 
-// Element and address of the detail, active elements, bytes, the patch's length, steps.
-pub fn answers_of(v: Verdict) -> [u64; 6]
-    ensures { λ a. ⌜ a ≡ numbers v ⌝ }
+// A verdict's number. `answer` gets element and address of the detail, active elements, bytes, the patch's length, steps. One match for
+// both, so that the verdict stays in registers.
+pub fn answered(v: Verdict, answer: &mut [u64; 6]) -> u64
+    ensures { λ r. ⌜ r ≡ number v ⌝ }
+    ensures { λ _. ⌜ now (answer .exit) ≡ numbers v ⌝ }
 {
     match v {
         Verdict::Done {
@@ -79,10 +67,14 @@ pub fn answers_of(v: Verdict) -> [u64; 6]
             bytes,
             length,
             steps,
-        } => [0, 0, elements, bytes, length, steps],
+        } => {
+            *answer = [0, 0, elements, bytes, length, steps];
+            0
+        }
         Verdict::Refused { refusal } => {
             let detail = detail_of(refusal);
-            [detail[0], detail[1], 0, 0, 0, 0]
+            *answer = [detail[0], detail[1], 0, 0, 0, 0];
+            refusal_number(refusal)
         }
     }
 }

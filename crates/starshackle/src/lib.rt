@@ -17,9 +17,8 @@ ghost use Rattle.numbers.specs.Flags.{flagsOf};
 ghost use Rattle.starshackle.specs.Interface.{Answers};
 use encoding::Decoded;
 use encoding::Encoded;
-use numbers::answers_of;
+use numbers::answered;
 use numbers::flags_of;
-use numbers::number_of;
 use patch::Applied;
 use patch::Judged;
 
@@ -81,8 +80,7 @@ pub extern "C" fn starshackle_store(
         number numbers r (now (answer .exit)) ⌝ }
 {
     let v = storing::store(vb, flags_of(flags), x, sp, z, p, base, memory, word, patch);
-    *answer = answers_of(v);
-    number_of(v)
+    answered(v, answer)
 }
 
 // What element e of the word's store is, whatever the flags: 0 and the element's five answers, or 1, 2 or 4 and zeros.

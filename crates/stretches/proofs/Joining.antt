@@ -1,10 +1,12 @@
 -- Keys joined, one after another. Assumes nothing.
-use mathlib.Core.Path.{_≡_, sym, ap, ap₂, _∙_, subst}
+use mathlib.Core.Path.{_≡_, refl, sym, ap, ap₂, _∙_, subst}
+use mathlib.Core.Bool.{Bool, true, false, cond}
 use Prim.Native.Nat.{ℕ, zero, suc, _+_, _-_, _*_, _/_, _%_, _≤_, _<_}
 use mathlib.Core.List.{List, [], _∷_, _++_, append-assoc}
 use native.Mathlib.Nat.{suc-mul, mul-le-mul-right}
 use native.Mathlib.Omega.{arith}
 use native.Mathlib.Numerals.{add-one}
+use lib.Dec.{eqb}
 use lib.ListN.{length, getD, set, length-set}
 use lib.Seq.{getD-set-same, getD-set-other, set-getD}
 use borrow.Author.Tests.{eq-eqb, ne-eqb}
@@ -34,6 +36,49 @@ module _ (size s last k : ℕ) (K : List ℕ) where
   pub joined-new : (startOf last + size ≡ startOf k → ⊥) → joinedFrom size s last (k ∷ K) ≡ s ∷ joinedFrom size k k K
   unfolding joinedFrom
   joined-new h = simp (ne-eqb (last / 65536 + size) (k / 65536) h)
+
+-- ---- how many stretches there are
+
+-- that doesn't depend on how far the open one has grown
+pub open-length : (size s s′ last : ℕ) (K : List ℕ) → length (joinedFrom size s last K) ≡ length (joinedFrom size s′ last K)
+unfolding joinedFrom
+open-length size s s′ last [] = refl
+open-length size s s′ last (k ∷ K) =
+    go (eqb (startOf last + size) (startOf k)) (open-length size (s + size * 256) (s′ + size * 256) k K)
+  where
+    go : (b : Bool) → length (joinedFrom size (s + size * 256) k K) ≡ length (joinedFrom size (s′ + size * 256) k K)
+        → length (cond b (joinedFrom size (s + size * 256) k K) (s ∷ joinedFrom size k k K))
+        ≡ length (cond b (joinedFrom size (s′ + size * 256) k K) (s′ ∷ joinedFrom size k k K))
+    go true e = e
+    go false e = refl
+
+pub open-some : (size s last : ℕ) (K : List ℕ) → 1 ≤ length (joinedFrom size s last K)
+unfolding joinedFrom
+open-some size s last [] = omega arith
+open-some size s last (k ∷ K) = go (eqb (startOf last + size) (startOf k)) (open-some size (s + size * 256) k K)
+  where
+    go : (b : Bool) → 1 ≤ length (joinedFrom size (s + size * 256) k K)
+        → 1 ≤ length (cond b (joinedFrom size (s + size * 256) k K) (s ∷ joinedFrom size k k K))
+    go true h = h
+    go false h = omega arith
+
+-- one stretch is the first key, with the bytes of all
+pub open-one : (size s last : ℕ) (K : List ℕ) → length (joinedFrom size s last K) ≡ 1
+    → joinedFrom size s last K ≡ (s + length K * size * 256) ∷ []
+unfolding joinedFrom
+open-one size s last [] e = ap (λ (z : ℕ). z ∷ []) (let w : s ≡ s + 0 * size * 256 = omega arith in w)
+open-one size s last (k ∷ K) e = go (eqb (startOf last + size) (startOf k)) (open-one size (s + size * 256) k K) e
+  where
+    go : (b : Bool)
+        → (length (joinedFrom size (s + size * 256) k K) ≡ 1
+        → joinedFrom size (s + size * 256) k K ≡ (s + size * 256 + length K * size * 256) ∷ [])
+        → length (cond b (joinedFrom size (s + size * 256) k K) (s ∷ joinedFrom size k k K)) ≡ 1
+        → cond b (joinedFrom size (s + size * 256) k K) (s ∷ joinedFrom size k k K) ≡ (s + suc (length K) * size * 256) ∷ []
+    go true f e =
+        f e
+        ∙ ap (λ (z : ℕ). z ∷ [])
+        (let w : s + size * 256 + length K * size * 256 ≡ s + suc (length K) * size * 256 = omega (arith, suc-mul (length K) size) in w)
+    go false f e = absurd (omega (arith, open-some size k k K))
 
 -- ---- keys by index
 
@@ -66,7 +111,7 @@ closed B s m h l e =
     ∙ entries-snoc B (m - 1) s (omega arith)
 
 module _ (A : List ℕ) (n size N : ℕ) (z : Sized A n size) where
-  size-at : (t : ℕ) → t < n → bytesOf (getD A t 0) ≡ size
+  pub size-at : (t : ℕ) → t < n → bytesOf (getD A t 0) ≡ size
   size-at t h = each-entry (λ k. bytesOf k ≡ size) A n t (z .each) h
 
   pub joining-first : (B : List ℕ) → length (set B 0 (getD A 0 0)) ≡ N → n ≤ length B → 0 < n → startOf (getD A 0 0) < 65536
@@ -159,3 +204,59 @@ module _ (A : List ℕ) (n size N : ℕ) (z : Sized A n size) where
 pub joined-none : (A B : List ℕ) (n size : ℕ) → n ≡ 0 → entries B 0 0 ≡ joined size (entries A 0 n)
 unfolding entries joined
 joined-none A B n size e = ap (λ (y : ℕ). joined size (entries A 0 y)) (sym e)
+
+-- ---- keys that are one stretch: those from t on are left, behind `last`, and make as many as all
+
+pub record Meeting (A : List ℕ) (n size last t : ℕ) : Type 0 where
+  pub some : 0 < t
+  pub most : t ≤ n
+  pub same : length (joinedFrom size 0 last (entries A t (n - t))) ≡ length (joined size (entries A 0 n))
+
+module _ (A : List ℕ) (n size : ℕ) where
+  pub meeting-none : n ≡ 0 → false ≡ eqb (length (joined size (entries A 0 n))) 1
+  unfolding joined entries
+  meeting-none e = ap (λ (z : ℕ). eqb (length (joined size (entries A 0 z))) 1) (sym e)
+
+  pub meeting-first : 0 < n → Meeting A n size (getD A 0 0) 1
+  unfolding joined
+  meeting-first h =
+      let k : ℕ = getD A 0 0 in
+      let w : 0 + 1 ≡ 1 = omega arith in
+      let g : entries A 0 n ≡ k ∷ entries A 1 (n - 1) =
+      sym (entries-all A n) ∙ entries-cons A n 0 h ∙ ap (λ (y : ℕ). k ∷ entries A y (n - y)) w in
+      record {
+        some = omega arith;
+        most = h;
+        same = open-length size 0 k k (entries A 1 (n - 1)) ∙ ap (λ (K : List ℕ). length (joined size K)) (sym g);
+      }
+
+  module _ (last t : ℕ) (m : Meeting A n size last t) where
+    module _ (h : t < n) where
+      abbrev k : ℕ
+      k = getD A t 0
+
+      abbrev K : List ℕ
+      K = entries A (t + 1) (n - (t + 1))
+
+      all : length (joinedFrom size 0 last (k ∷ K)) ≡ length (joined size (entries A 0 n))
+      all = ap (λ (X : List ℕ). length (joinedFrom size 0 last X)) (sym (entries-cons A n t h)) ∙ m .same
+
+      pub meeting-on : startOf last + size ≡ startOf k → Meeting A n size k (t + 1)
+      meeting-on e =
+          record {
+            some = omega arith;
+            most = omega arith;
+            same = open-length size 0 (0 + size * 256) k K ∙ ap length (sym (joined-on size 0 last k K e)) ∙ all;
+          }
+
+      pub meeting-off : (startOf last + size ≡ startOf k → ⊥) → false ≡ eqb (length (joined size (entries A 0 n))) 1
+      meeting-off f =
+          let q : suc (length (joinedFrom size k k K)) ≡ length (joined size (entries A 0 n)) =
+          ap length (sym (joined-new size 0 last k K f)) ∙ all in
+          sym (ne-eqb (length (joined size (entries A 0 n))) 1 (λ e. omega (arith, open-some size k k K)))
+
+    pub meeting-done : n ≤ t → true ≡ eqb (length (joined size (entries A 0 n))) 1
+    unfolding joinedFrom
+    meeting-done h =
+        sym (eq-eqb (length (joined size (entries A 0 n))) 1
+        (sym (m .same) ∙ ap (λ (X : List ℕ). length (joinedFrom size 0 last X)) (entries-none A n t h)))

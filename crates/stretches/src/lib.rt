@@ -1,7 +1,7 @@
 // Stretches of bytes in a window: elements joined where each starts where the one before ends, and the runs that stretches make.
 ghost use mathlib.Core.Path.{_≡_};
 ghost use Prim.Native.Nat.{_+_, _-_, _<_, _≤_};
-ghost use lib.Dec.{leb};
+ghost use lib.Dec.{eqb, leb};
 ghost use lib.ListN.{length};
 ghost use Rattle.ordering.specs.Keys.{entries};
 ghost use Rattle.stretches.specs.Intervals.{total};
@@ -55,6 +55,27 @@ pub fn grown(stretches: &[u32], m: usize, t: usize) -> Reach
         next += 1;
     }
     Reach { start, end, next }
+}
+
+// Whether keys are one stretch: there are some, and each starts where the one before ends.
+pub fn is_one(keys: &[u32], n: usize, size: usize) -> bool
+    requires { ⌜ (n ≤ length (now keys)) × (size ≤ 256) ⌝ }
+    ensures { λ r. ⌜ r ≡ eqb (length (joined size (entries (now (keys .entry)) 0 n))) 1 ⌝ }
+{
+    if n == 0 {
+        return false;
+    }
+    let mut last = keys[0];
+    let mut t: usize = 1;
+    while t < n {
+        let k = keys[t];
+        if start_of(last) + size != start_of(k) {
+            return false;
+        }
+        last = k;
+        t += 1;
+    }
+    true
 }
 
 // Joins keys each of which starts where the one before ends: a stretch has its first element's key, with the bytes of all. The entries

@@ -1,20 +1,22 @@
 -- `finish`, from keys to memory and patch: what each step requires, and what is answered. Assumes nothing.
-use mathlib.Core.Path.{_≡_, sym, ap, _∙_, subst}
-use Prim.Native.Nat.{ℕ, _+_, _*_, _≤_}
+use mathlib.Core.Path.{_≡_, refl, sym, ap, ap₂, _∙_, subst}
+use Prim.Native.Nat.{ℕ, zero, suc, _+_, _-_, _*_, _≤_, _<_}
 use mathlib.Core.Bool.{false}
-use mathlib.Core.List.{List}
+use mathlib.Core.List.{List, [], _∷_}
+use native.Mathlib.Nat.{suc-mul}
 use native.Mathlib.Omega.{arith}
 use lib.Dec.{leb}
-use lib.ListN.{length}
-use borrow.Author.Tests.{leb-false}
+use lib.ListN.{length, getD}
+use borrow.Author.Tests.{leb-false, lt-leb}
 use Rattle.endian.specs.LittleEndian.{Bytes}
 use Rattle.writes.specs.Encoding.{encodeRuns, encode}
 use Rattle.writes.specs.Elements.{Element, netEffect, written, stepsOf}
 use Rattle.endian.specs.Overwriting.{overwritten}
-use Rattle.ordering.specs.Keys.{entries, sorted, Each, Distinct}
-use Rattle.ordering.proofs.Sorting.{length-entries}
-use Rattle.stretches.specs.Intervals.{total}
-use Rattle.stretches.specs.Stretches.{bytesOf, keysOf, joined, merged, sum, Sized, Ordered}
+use Rattle.ordering.specs.Keys.{entries, filed, sorted, Each, Distinct}
+use Rattle.ordering.proofs.Sorting.{length-entries, entries-all, entries-cons}
+use Rattle.stretches.specs.Intervals.{Interval, interval, total}
+use Rattle.stretches.specs.Stretches.{startOf, bytesOf, keysOf, joined, mergedFrom, merged, sum, Sized, Rising, Ordered}
+use Rattle.stretches.proofs.Joining.{open-one, size-at}
 use Rattle.stretches.proofs.Keying.{keys-sized, length-keys, stretches-steps, stretches-distinct}
 use Rattle.cutting.specs.Cutting.{cut}
 use Rattle.cutting.proofs.Patched.{patch-ordered, patch-sum, patch-length, patch-made}
@@ -22,8 +24,9 @@ use Rattle.verdicts.specs.Verdicts.{patchOf}
 use Rattle.verdicts.specs.declared.Refusal.the-variants.{NoRoom}
 use Rattle.verdicts.specs.declared.Verdict.the-variants.{Done, Refused}
 use Rattle.outcomes.specs.Steps.{StoredOf}
-use Rattle.vectors.specs.Steps.{putAll, Placed, Ready}
-use Rattle.vectors.proofs.Writing.{keys-placed, keys-written}
+use Rattle.writing.specs.Writing.{putAll, Placed}
+use Rattle.writing.proofs.Writing.{keys-placed, keys-written}
+use Rattle.vectors.specs.Steps.{Ready}
 use Rattle.outcomes.proofs.Concluding.{stored-short, stored-done}
 
 module _ (W step size : ℕ) (mem stored A : List ℕ) (n : ℕ) (es : List Element) (R : Ready W (length mem) step size stored A n es) where
@@ -96,3 +99,84 @@ module _ (W step size : ℕ) (mem stored A : List ℕ) (n : ℕ) (es : List Elem
           (omega (arith, long)) (em ∙ ready-written)
           (patch-made W size mem es (R .top) (R .small) b (R .some) (R .wide) (R .fits) (R .seen) few C m l sorted-are mem′ out out′
           (em ∙ ready-written) eo)
+
+  -- ---- one stretch: the first key, with the bytes of all
+
+  module _ (one : length (joined size (entries A 0 n)) ≡ 1) where
+    pub one-some : 0 < n
+    unfolding joined entries
+    one-some = go n one
+      where
+        go : (n : ℕ) → length (joined size (entries A 0 n)) ≡ 1 → 0 < n
+        go zero e = absurd (omega arith)
+        go (suc n) e = omega arith
+
+    -- one before the last, in bytes
+    abbrev rest : ℕ
+    rest = (n - 1) * size
+
+    abbrev stretch : ℕ
+    stretch = getD A 0 0 + rest * 256
+
+    all : rest + size ≡ n * size
+    all = let w : n ≡ suc (n - 1) = omega (arith, one-some) in sym (ap (λ (z : ℕ). z * size) w ∙ suc-mul (n - 1) size)
+
+    one-joined : stretch ∷ [] ≡ joined size (entries A 0 n)
+    unfolding joined
+    one-joined =
+        let k : ℕ = getD A 0 0 in
+        let w : 0 + 1 ≡ 1 = omega arith in
+        let K : List ℕ = entries A 1 (n - 1) in
+        let g : entries A 0 n ≡ k ∷ K =
+        sym (entries-all A n) ∙ entries-cons A n 0 one-some ∙ ap (λ (y : ℕ). k ∷ entries A y (n - y)) w in
+        sym (ap (joined size) g ∙ open-one size k k K (ap (λ (X : List ℕ). length (joined size X)) (sym g) ∙ one)
+        ∙ ap (λ (z : ℕ). (k + z * size * 256) ∷ []) (length-entries A 1 (n - 1)))
+
+    first-bytes : bytesOf (getD A 0 0) ≡ size
+    first-bytes = size-at A n size 0 ready-sized 0 one-some
+
+    one-start : startOf stretch ≡ startOf (getD A 0 0)
+    one-start = omega (arith, first-bytes, all, R .bytes)
+
+    one-bytes : bytesOf stretch ≡ n * size
+    one-bytes = omega (arith, first-bytes, all, R .bytes)
+
+    one-merged : merged (stretch ∷ []) ≡ interval (startOf (getD A 0 0)) (n * size) ∷ []
+    unfolding merged mergedFrom
+    one-merged =
+        ap₂ (λ (x y : ℕ). interval x y ∷ []) one-start
+        (let w : startOf stretch + bytesOf stretch - startOf stretch ≡ n * size = omega (arith, one-bytes) in w)
+
+    -- as an array of one entry, which is in order
+    one-entry : entries (stretch ∷ []) 0 1 ≡ stretch ∷ []
+    unfolding entries
+    one-entry = refl
+
+    one-sorted : entries (stretch ∷ []) 0 1 ≡ sorted (entries (stretch ∷ []) 0 1)
+    unfolding entries sorted filed
+    one-sorted = refl
+
+    one-total : total (merged (entries (stretch ∷ []) 0 1)) + 4 ≡ n * size + 16
+    unfolding total
+    one-total = omega (arith, ap (λ (K : List ℕ). total (merged K)) one-entry, ap total one-merged)
+
+    pub one-inside : Bytes mem → startOf (getD A 0 0) + n * size ≤ length mem
+    one-inside b =
+        let o = ready-ordered (stretch ∷ []) 1 (one-entry ∙ one-joined) (stretch ∷ []) one-sorted (omega arith) b in
+        let r : Rising (length mem) 0 (stretch ∷ []) = subst (Rising (length mem) 0) one-entry (o .rising) in
+        omega (arith, r .1, one-start, one-bytes)
+
+    module _ (b : Bytes mem) (out : List ℕ) where
+      pub one-short : length out < n * size + 16 → StoredOf W size mem out es (Refused NoRoom) mem out
+      one-short h =
+          ready-short (stretch ∷ []) 1 (one-entry ∙ one-joined) (stretch ∷ []) one-sorted (omega arith) b out
+          (lt-leb (total (merged (entries (stretch ∷ []) 0 1)) + 4) (length out) (omega (arith, one-total)))
+
+      pub one-done : n * size + 16 ≤ length out → (mem′ out′ : List ℕ) (k b′ r : ℕ) → k ≡ n → b′ ≡ n * size
+          → mem′ ≡ putAll step size stored (entries A 0 n) mem → r ≡ n * size + 16
+          → out′ ≡ overwritten out 0 (encodeRuns (cut W mem′ (interval (startOf (getD A 0 0)) (n * size) ∷ [])))
+          → StoredOf W size mem out es (Done k b′ r 1) mem′ out′
+      one-done h mem′ out′ k b′ r ek eb em er eo =
+          ready-done (stretch ∷ []) 1 (one-entry ∙ one-joined) (stretch ∷ []) one-sorted (omega arith) b out mem′ out′ k b′ r
+          (omega (arith, one-total)) ek eb em (er ∙ sym one-total)
+          (eo ∙ ap (λ (I : List Interval). overwritten out 0 (encodeRuns (cut W mem′ I))) (sym (ap merged one-entry ∙ one-merged)))

@@ -28,7 +28,8 @@ use Rattle.cutting.specs.Cutting.{part, Fits}
 use Rattle.gathering.specs.Gathering.{GatheredAs}
 use Rattle.gathering.specs.declared.Gathered.{Gathered}
 use Rattle.gathering.specs.declared.Gathered.the-variants as G
-use Rattle.vectors.specs.Steps.{Held, Ready}
+use Rattle.writing.specs.Writing.{Held}
+use Rattle.vectors.specs.Steps.{Ready}
 
 -- at most 64 elements
 pub vector-few : (v : VectorAccess) (vb : ℕ) → VectorSound v vb → v .count ≤ 64

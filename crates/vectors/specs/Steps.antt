@@ -6,27 +6,12 @@ use mathlib.Core.Option.{none}
 use mathlib.Core.Path.{_≡_}
 use lib.ListN.{length}
 use Rattle.writes.specs.Elements.{Element}
-use Rattle.endian.specs.Overwriting.{overwritten}
 use Rattle.elements.specs.Accesses.{isWidth}
-use Rattle.ordering.specs.Keys.{numberOf, entries}
-use Rattle.stretches.specs.Stretches.{startOf, Seen, keysOf}
-use Rattle.cutting.specs.Cutting.{part, Fits}
+use Rattle.ordering.specs.Keys.{entries}
+use Rattle.stretches.specs.Stretches.{Seen, keysOf}
+use Rattle.cutting.specs.Cutting.{Fits}
+use Rattle.writing.specs.Writing.{Held}
 use Rattle.verdicts.specs.Verdicts.{firstOutside}
-
--- the keys' bytes, out of a register whose elements are `step` bytes apart, put over memory in turn
-unfoldable pub putAll : ℕ → ℕ → List ℕ → List ℕ → List ℕ → List ℕ
-putAll step size stored [] mem = mem
-putAll step size stored (k ∷ K) mem = putAll step size stored K (overwritten mem (startOf k) (part stored (numberOf k * step) size))
-
--- a key's bytes lie in a window of L bytes, and in a register of N bytes
-abbrev pub Placed : ℕ → ℕ → ℕ → ℕ → ℕ → Type 0
-Placed step size L N k = (startOf k + size ≤ L) × (numberOf k * step + size ≤ N)
-
--- each element's bytes are those of the register
-abbrev pub Held : ℕ → ℕ → List ℕ → List Element → Type 0
-Held step size stored [] = Unit {0}
-Held step size stored (x ∷ xs) =
-    (x .bytes ≡ part stored (x .number * step) size) × (x .number * step + size ≤ length stored) × Held step size stored xs
 
 -- the first n keys of an array are those of elements that all lie in the window
 pub record Ready (W L step size : ℕ) (stored A : List ℕ) (n : ℕ) (es : List Element) : Type 0 where

@@ -6,85 +6,46 @@ ghost use Prim.Native.Nat.{_+_, _*_, _<_, _≤_};
 ghost use lib.ListN.{length};
 ghost use Rattle.writes.specs.Elements.{Element};
 ghost use Rattle.window.specs.Window.{windowOk};
-ghost use Rattle.elements.specs.Accesses.{isWidth, VectorSound};
-ghost use Rattle.ordering.specs.Keys.{numberOf, entries, Each};
+ghost use Rattle.elements.specs.Accesses.{VectorSound};
+ghost use Rattle.ordering.specs.Keys.{entries};
+ghost use Rattle.stretches.specs.Stretches.{joined};
 ghost use Rattle.checks.specs.Checking.{Sound, vectorsIn};
 ghost use Rattle.outcomes.specs.Steps.{StoredOf};
-ghost use Rattle.vectors.specs.Steps.{putAll, Placed, Ready};
-use elements::Counts;
+ghost use Rattle.vectors.specs.Steps.{Ready};
 use elements::VectorAccess;
 use gathering::Gathered;
 use verdicts::Refusal;
 use verdicts::Verdict;
 
-// The number of a key's element.
-fn number_of(k: u32) -> usize
-    ensures { λ r. ⌜ (r ≡ numberOf k) × (r < 256) ⌝ }
-{
-    (k % 256) as usize
-}
-
-// Writes the elements of the keys in their order, each to its part of memory, and counts them.
-fn write_keys(
+// Doublewords that are one stretch: room, memory, a patch of one run. No array of stretches is made.
+fn finish_one(
     keys: &[u32],
     n: usize,
-    step: usize,
-    size: usize,
     stored: &[u8],
+    base: u64,
     memory: &mut [u8],
-) -> Counts
-    requires { ⌜ (n ≤ length (now keys)) × (n ≤ 64) × (size ≤ 256) ⌝ }
-    requires { ⌜ Each (λ k. Placed step size (length (now memory)) (length (now stored)) k) (entries (now keys) 0 n) ⌝ }
-    ensures { λ r. ⌜ (r .elements ≡ n) × (r .bytes ≡ n * size) ⌝ }
-    ensures { λ _.
-        ⌜ now (memory .exit) ≡ putAll step size (now (stored .entry)) (entries (now (keys .entry)) 0 n) (now (memory .entry)) ⌝ }
+    patch: &mut [u8],
+) -> Verdict
+    requires { ⌜ ((es : List Element) × Ready base (length (now memory)) 8 8 (now stored) (now keys) n es) ⌝ }
+    requires { ⌜ length (joined 8 (entries (now keys) 0 n)) ≡ 1 ⌝ }
+    ensures { λ r.
+        ⌜ ((es : List Element)
+        → Ready base (length (now (memory .entry))) 8 8 (now (stored .entry)) (now (keys .entry)) n es
+        → StoredOf base 8 (now (memory .entry)) (now (patch .entry)) es r (now (memory .exit)) (now (patch .exit))) ⌝ }
 {
-    let mut elements: u64 = 0;
-    let mut bytes: u64 = 0;
-    let mut t = 0;
-    while t < n {
-        let k = keys[t];
-        let at = stretches::start_of(k);
-        let to = at + size;
-        let from = number_of(k) * step;
-        let end = from + size;
-        endian::copy(&mut memory[at..to], &stored[from..end]);
-        elements += 1;
-        bytes += size as u64;
-        t += 1;
+    if patch.len() < n * 8 + 16 {
+        return Verdict::Refused {
+            refusal: Refusal::NoRoom,
+        };
     }
-    Counts { elements, bytes }
-}
-
-// The same with a constant for each size, so that the compiler makes a loop of its own for it, and none calls `copy_any`.
-fn write_vector(
-    keys: &[u32],
-    n: usize,
-    step: usize,
-    size: usize,
-    stored: &[u8],
-    memory: &mut [u8],
-) -> Counts
-    requires { ⌜ (n ≤ length (now keys)) × (n ≤ 64) × (size ≤ 256) ⌝ }
-    requires { ⌜ (isWidth size ≡ true) × (size ≡ 8 → step ≡ 8) × (size ≡ 16 → step ≡ 16) ⌝ }
-    requires { ⌜ Each (λ k. Placed step size (length (now memory)) (length (now stored)) k) (entries (now keys) 0 n) ⌝ }
-    ensures { λ r. ⌜ (r .elements ≡ n) × (r .bytes ≡ n * size) ⌝ }
-    ensures { λ _.
-        ⌜ now (memory .exit) ≡ putAll step size (now (stored .entry)) (entries (now (keys .entry)) 0 n) (now (memory .entry)) ⌝ }
-{
-    if size == 8 {
-        return write_keys(keys, n, 8, 8, stored, memory);
+    let counts = writing::write_keys(keys, n, 8, 8, stored, memory);
+    let written = cutting::compose_one(base, stretches::start_of(keys[0]), n * 8, memory, patch);
+    Verdict::Done {
+        elements: counts.elements,
+        bytes: counts.bytes,
+        length: written as u64,
+        steps: 1,
     }
-    if size == 1 {
-        return write_keys(keys, n, step, 1, stored, memory);
-    }
-    if size == 16 {
-        return write_keys(keys, n, 16, 16, stored, memory);
-    }
-    if size == 4 {
-        return write_keys(keys, n, step, 4, stored, memory);
-    }
-    write_keys(keys, n, step, 2, stored, memory)
 }
 
 // From the keys on: join, order, room, memory, patch.
@@ -104,6 +65,9 @@ fn finish(
         → Ready base (length (now (memory .entry))) step size (now (stored .entry)) (now (keys .entry)) n es
         → StoredOf base size (now (memory .entry)) (now (patch .entry)) es r (now (memory .exit)) (now (patch .exit))) ⌝ }
 {
+    if (size == 8) & stretches::is_one(keys, n, 8) {
+        return finish_one(keys, n, stored, base, memory, patch);
+    }
     let mut stretches = [0u32; 64];
     let m = stretches::join(keys, n, size, &mut stretches);
     ordering::order(&mut stretches, m);
@@ -112,7 +76,7 @@ fn finish(
             refusal: Refusal::NoRoom,
         };
     }
-    let counts = write_vector(keys, n, step, size, stored, memory);
+    let counts = writing::write_vector(keys, n, step, size, stored, memory);
     let length = cutting::compose(base, &stretches, m, memory, patch);
     Verdict::Done {
         elements: counts.elements,

@@ -3,10 +3,10 @@ use mathlib.Core.Path.{_∙_, ap, sym}
 use mathlib.Core.List.{_∷_, []}
 use Prim.Native.Nat.{ℕ}
 use native.Mathlib.Omega.{arith}
-use mir.Syntax.{w64}
-use mir.Val.{ofZ}
-use mir.Facts.{toZ-ofZ}
+use mir.Syntax.{w8, w64}
+use mir.Val.{SFits, ofZ}
 use Rattle.encoding.specs.Answers.{storeNumbers}
+use Rattle.encoding.proofs.Signed.{wide-fits, wide-is}
 use borrow.Author.Needs.{needs}
 use Rattle.codec.proofs.numbers_of.Statement.{statement}
 use Rattle.codec.proofs.numbers_of.Tie as tie
@@ -22,6 +22,13 @@ scatter-numbers-requires c κs = search needs
 
 enum-known-store-2 : tie.Need-enum-known-store-2
 enum-known-store-2 c = search needs
+
+-- a strided store's multiple has 8 bits
+byte : (c : tie.After-known-told2) → SFits w8 (c .before .store2 .given .0 .0 .multiple)
+byte c = record { sfits = omega arith }
+
+cast-bits-of : tie.Need-cast-bits-of
+cast-bits-of c = wide-fits _ (byte (c .before .before))
 
 bits-of-requires : tie.Need-bits-of-requires
 bits-of-requires c κs = search needs
@@ -44,11 +51,12 @@ returns c =
 
 returns-2 : tie.Need-returns-2
 returns-2 c =
-    let f = c .before .before .before .before .store2 .given .0 .0 in
+    let t = c .before .before .before .before in
+    let f = t .before .store2 .given .0 .0 in
     c .strided-numbers .ensures
     ∙ ap (λ (n : ℕ). f .class ∷ f .rm ∷ 0 ∷ f .pc ∷ f .rn ∷ f .first ∷ n ∷ 0 ∷ [])
-    (c .before .bits-of .ensures ∙ ap (ofZ w64) (toZ-ofZ {w = w64} {z = f .multiple} (record { sfits = omega arith })))
-    ∙ ap storeNumbers (sym (c .before .before .before .before .store2 .given .1))
+    (c .before .bits-of .ensures ∙ ap (ofZ w64) (wide-is (f .multiple) (byte t)))
+    ∙ ap storeNumbers (sym (t .before .store2 .given .1))
 
 returns-3 : tie.Need-returns-3
 returns-3 c = c .quadword-numbers .ensures ∙ ap storeNumbers (sym (c .before .before .store3 .given .1))
@@ -61,6 +69,7 @@ numbers-of-spec =
     number-of-requires
     scatter-numbers-requires
     enum-known-store-2
+    cast-bits-of
     bits-of-requires
     strided-numbers-requires
     enum-known-store-3

@@ -1,7 +1,7 @@
 -- `strided_given`: entry by entry. Assumes nothing.
-use mathlib.Core.Path.{_∙_}
-use mir.Syntax.{w64}
-use mir.Facts.{toZ-ofZ}
+use mir.Syntax.{w8, w64}
+use mir.Val.{SFits, toZ}
+use Rattle.encoding.proofs.Signed.{narrow-fits, narrow-is}
 use Rattle.encoding.specs.declared.Store.the-variants.{Strided}
 use Rattle.codec.specs.Codec.{entry}
 use borrow.Author.Needs.{needs}
@@ -26,30 +26,39 @@ element-copy-out-signed-of c = search needs
 signed-of-requires : tie.Need-signed-of-requires
 signed-of-requires c κs = search needs
 
-element-copy-out-t16 : tie.Need-element-copy-out-t16
-element-copy-out-t16 c = search needs
+-- entry 6, read as signed, has 8 bits
+byte : (c : tie.After-signed-of) → SFits w8 (toZ w64 (entry (c .before .before .before .before .args .fields .now) 6))
+byte c = c .before .before .before .before .pre .at6
 
-cast-t17 : tie.Need-cast-t17
-cast-t17 c = search needs
+cast-t14 : tie.Need-cast-t14
+cast-t14 c =
+    let m = c .signed-of in
+    narrow-fits (m .result) _ (record { sfits = m .ok }) (m .ensures) (byte c)
 
-element-copy-out-t20 : tie.Need-element-copy-out-t20
-element-copy-out-t20 c = search needs
+element-copy-out-t17 : tie.Need-element-copy-out-t17
+element-copy-out-t17 c = search needs
 
-cast-t21 : tie.Need-cast-t21
-cast-t21 c = search needs
+cast-t18 : tie.Need-cast-t18
+cast-t18 c = search needs
 
-element-copy-out-t24 : tie.Need-element-copy-out-t24
-element-copy-out-t24 c = search needs
+element-copy-out-t21 : tie.Need-element-copy-out-t21
+element-copy-out-t21 c = search needs
 
-cast-t25 : tie.Need-cast-t25
-cast-t25 c = search needs
+cast-t22 : tie.Need-cast-t22
+cast-t22 c = search needs
+
+element-copy-out-t25 : tie.Need-element-copy-out-t25
+element-copy-out-t25 c = search needs
+
+cast-t26 : tie.Need-cast-t26
+cast-t26 c = search needs
 
 returns : tie.Need-returns
 returns c =
     let x = c .before .before .before in
     let es = x .before .before .before .before .args .fields .now in
     let m = x .signed-of in
-    let z = toZ-ofZ {w = w64} {z = m .result} (record { sfits = m .ok }) ∙ m .ensures in
+    let z = narrow-is (m .result) _ (record { sfits = m .ok }) (m .ensures) (byte x) in
     λ i.
     Strided
     (record {
@@ -71,10 +80,11 @@ strided-given-spec =
     cast-t9
     element-copy-out-signed-of
     signed-of-requires
-    element-copy-out-t16
-    cast-t17
-    element-copy-out-t20
-    cast-t21
-    element-copy-out-t24
-    cast-t25
+    cast-t14
+    element-copy-out-t17
+    cast-t18
+    element-copy-out-t21
+    cast-t22
+    element-copy-out-t25
+    cast-t26
     returns)

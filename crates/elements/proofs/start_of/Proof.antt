@@ -4,14 +4,14 @@ use mathlib.Core.List.{[]}
 use Prim.Native.Nat.{ℕ, _≤_}
 use native.Mathlib.Omega.{arith}
 use lib.IntN.{ℤ, natAbs}
-use mir.Syntax.{w64}
+use mir.Syntax.{w8}
 use mir.Val.{SFits}
-use mir.Facts.{toZ-ofZ}
 use Rattle.encoding.specs.Encoding.{classNumbered, classFor}
 use Rattle.encoding.specs.Layouts.{numberIn}
 use Rattle.encoding.specs.declared.Number.{Number}
 use Rattle.encoding.specs.declared.Number.the-variants.{RmValues, Scale}
 use Rattle.encoding.specs.declared.Store.the-variants.{Strided}
+use Rattle.encoding.proofs.Signed.{wide-fits, wide-is}
 use Rattle.encoding.proofs.Statements.{listed}
 use Rattle.elements.specs.Machine.{Machine, machine}
 use Rattle.elements.proofs.Shapes.{StridedIn, strided-in}
@@ -31,8 +31,8 @@ number a = number-is (Strided (a .args .f)) (a .pre .0)
 abbrev lent : tie.Start → Machine
 lent a = machine (a .args .vb) (a .args .x .now) (a .args .sp) [] []
 
-whole : (a : tie.Start) → SFits w64 (a .args .f .multiple)
-whole a = record { sfits = omega arith }
+byte : (a : tie.Start) → SFits w8 (a .args .f .multiple)
+byte a = record { sfits = omega arith }
 
 general-requires : tie.Need-general-requires
 general-requires c κs = fields c .rn
@@ -40,21 +40,24 @@ general-requires c κs = fields c .rn
 number-for-requires : tie.Need-number-for-requires
 number-for-requires c κs = listed (Strided (c .before .args .f)) (c .before .pre .0)
 
+cast-displaced : tie.Need-cast-displaced
+cast-displaced c = wide-fits _ (byte (c .before .before .before .before .before))
+
 displaced-requires : tie.Need-displaced-requires
 displaced-requires c κs =
-    let a = c .before .before .before .before in
-    (subst (λ (z : ℤ). natAbs z ≤ 64) (sym (toZ-ofZ (whole a))) (fields a .multiple), omega (arith, a .pre .1))
+    let a = c .before .before .before .before .before in
+    (subst (λ (z : ℤ). natAbs z ≤ 64) (sym (wide-is _ (byte a))) (fields a .multiple), omega (arith, a .pre .1))
 
 returns : tie.Need-returns
 returns c =
-    let k = c .before .before in
+    let k = c .before .before .before in
     let n = k .before in
     let g = n .before in
     let a = g .before in
     let f = a .args .f in
     start-displaced (lent a) (classFor (Strided f)) (f .rn) (f .rm) (f .multiple)
     (n .number-for .result) (number a RmValues (n .number-for .result) (n .number-for .ensures)) (k .if1 .taken)
-    (g .general .result) (g .general .ensures) _ (toZ-ofZ (whole a)) (c .displaced .result) (c .displaced .ensures)
+    (g .general .result) (g .general .ensures) _ (wide-is (f .multiple) (byte a)) (c .displaced .result) (c .displaced .ensures)
 
 -- ---- an index in Rm
 
@@ -96,6 +99,7 @@ start-of-spec =
     (tie.spec
     general-requires
     number-for-requires
+    cast-displaced
     displaced-requires
     returns
     general-requires-2

@@ -1,12 +1,13 @@
 -- `strided`: each field stands at its place, and the multiple is imm4's. Assumes nothing.
-use Prim.Native.Nat.{_/_}
+use Prim.Native.Nat.{_/_, _%_, _<_}
 use native.Mathlib.Omega.{arith}
 use native.Mathlib.Nat.{mod-lt}
-use mathlib.Core.Path.{_∙_}
-use mir.Syntax.{w64}
-use mir.Facts.{toZ-ofZ}
+use mir.Syntax.{w8}
+use mir.Val.{SFits}
 use Rattle.encoding.specs.Classes.{classes}
+use Rattle.encoding.specs.Decoding.{multipleOf}
 use Rattle.encoding.proofs.Reading.{strided-is}
+use Rattle.encoding.proofs.Signed.{multiple-fits, narrow-fits, narrow-is}
 use borrow.Author.Needs.{needs}
 use Rattle.encoding.proofs.strided.Statement.{statement}
 use Rattle.encoding.proofs.strided.Tie as tie
@@ -22,10 +23,18 @@ rem-imm4 c = search needs
 cast-imm4 : tie.Need-cast-imm4
 cast-imm4 c = omega (arith, mod-lt (c .before .before .args .word / 65536) (c .before .layout-of .ensures .1 .imm4 .0))
 
+-- imm4 and the number of registers are small
+imm4-small : (c : tie.After-layout-of) → c .before .args .word / 65536 % c .layout-of .result .imm4 < 16
+imm4-small c =
+    let l = c .layout-of .ensures .1 in
+    omega (arith, mod-lt (c .before .args .word / 65536) (l .imm4 .0), l .imm4 .1)
+
+imm4-fits : (c : tie.After-layout-of)
+    → SFits w8 (multipleOf (c .layout-of .result .nreg) (c .before .args .word / 65536 % c .layout-of .result .imm4))
+imm4-fits c = multiple-fits _ _ (c .layout-of .ensures .1 .nreg) (imm4-small c)
+
 multiple-requires : tie.Need-multiple-requires
-multiple-requires c κs =
-    let l = c .before .layout-of .ensures .1 in
-    (omega (arith, mod-lt (c .before .before .args .word / 65536) (l .imm4 .0)), l .nreg)
+multiple-requires c κs = (imm4-small (c .before), c .before .layout-of .ensures .1 .nreg)
 
 add-t8 : tie.Need-add-t8
 unfolding classes
@@ -44,29 +53,34 @@ cast-t10 c =
     let l = c .before .before .before .layout-of in
     omega (arith, mod-lt (c .before .before .before .before .args .word / 65536) (l .ensures .1 .rm .0))
 
-cast-t13 : tie.Need-cast-t13
-unfolding classes
-cast-t13 c = search needs
+cast-t11 : tie.Need-cast-t11
+cast-t11 c =
+    let m = c .before .multiple in
+    narrow-fits (m .result) _ (record { sfits = m .ok }) (m .ensures) (imm4-fits (c .before .before .before))
 
-cast-t16 : tie.Need-cast-t16
+cast-t14 : tie.Need-cast-t14
 unfolding classes
-cast-t16 c = search needs
+cast-t14 c = search needs
 
-mul-t19 : tie.Need-mul-t19
+cast-t17 : tie.Need-cast-t17
 unfolding classes
-mul-t19 c = search needs
+cast-t17 c = search needs
 
-rem-t20 : tie.Need-rem-t20
+mul-t20 : tie.Need-mul-t20
 unfolding classes
-rem-t20 c = search needs
+mul-t20 c = search needs
 
-add-t21 : tie.Need-add-t21
-add-t21 c =
+rem-t21 : tie.Need-rem-t21
+unfolding classes
+rem-t21 c = search needs
+
+add-t22 : tie.Need-add-t22
+add-t22 c =
     let l = c .before .before .before .before in
     omega (arith, mod-lt (l .before .args .word) (l .layout-of .ensures .1 .zt .0))
 
-cast-t22 : tie.Need-cast-t22
-cast-t22 c =
+cast-t23 : tie.Need-cast-t23
+cast-t23 c =
     let l = c .before .before .before .before in
     omega (arith, mod-lt (l .before .args .word) (l .layout-of .ensures .1 .zt .0))
 
@@ -77,7 +91,7 @@ returns c =
     let l = c .before .before .before .before .layout-of in
     let m = c .before .before .multiple in
     strided-is (a .args .k) (a .args .word) (a .pre .0) (l .result) (l .ensures .0) (a .pre .1) _
-    (toZ-ofZ {w = w64} {z = m .result} (record { sfits = m .ok }) ∙ m .ensures)
+    (narrow-is (m .result) _ (record { sfits = m .ok }) (m .ensures) (imm4-fits (c .before .before .before .before)))
 
 pub strided-spec : {M : Type 1} → statement M
 strided-spec =
@@ -91,10 +105,11 @@ strided-spec =
     cast-t9
     rem-t7
     cast-t10
-    cast-t13
-    cast-t16
-    mul-t19
-    rem-t20
-    add-t21
-    cast-t22
+    cast-t11
+    cast-t14
+    cast-t17
+    mul-t20
+    rem-t21
+    add-t22
+    cast-t23
     returns)

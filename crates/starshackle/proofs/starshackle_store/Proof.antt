@@ -12,11 +12,8 @@ flags-of-requires c κs = search needs
 store-requires : tie.Need-store-requires
 store-requires c κs = search needs
 
-answers-of-requires : tie.Need-answers-of-requires
-answers-of-requires c κs = search needs
-
-number-of-requires : tie.Need-number-of-requires
-number-of-requires c κs = search needs
+answered-requires : tie.Need-answered-requires
+answered-requires c κs = search needs
 
 same-length : tie.Need-same-length
 same-length c = search needs
@@ -37,8 +34,8 @@ returns c =
     record {
       answer = s .store .result;
       holds = on-flags (f .flags-of .ensures) (s .store .ensures);
-      its-number = c .number-of .ensures;
-      its-numbers = c .before .answers-of .ensures;
+      its-number = c .answered .ensures .0;
+      its-numbers = c .answered .ensures .1;
     }
 
 pub starshackle-store-spec : {M : Type 1} → statement M
@@ -47,8 +44,7 @@ starshackle-store-spec =
     (tie.spec
     flags-of-requires
     store-requires
-    answers-of-requires
-    number-of-requires
+    answered-requires
     same-length
     same-length-2
     returns)

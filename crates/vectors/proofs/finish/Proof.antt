@@ -4,14 +4,20 @@ use mathlib.Core.Path.{_≡_, sym, _∙_, subst}
 use mathlib.Core.List.{List}
 use Prim.Native.Nat.{ℕ, _+_, _≤_}
 use native.Mathlib.Omega.{arith}
+use lib.Dec.{eqb}
 use lib.ListN.{length}
 use borrow.Author.Needs.{needs}
-use borrow.Author.Tests.{not-true, not-false, leb-true}
+use borrow.Author.Tests.{not-true, not-false, leb-true, eqb-true}
 use Rattle.endian.specs.LittleEndian.{Bytes}
 use Rattle.endian.proofs.LittleEndian.{bytes-at}
+use Rattle.endian.proofs.Order.{both}
+use Rattle.writes.specs.Elements.{Element}
 use Rattle.ordering.specs.Keys.{entries}
 use Rattle.stretches.specs.Intervals.{total}
-use Rattle.stretches.specs.Stretches.{merged, Ordered}
+use Rattle.stretches.specs.Stretches.{joined, merged, Ordered}
+use Rattle.verdicts.specs.declared.Verdict.{Verdict}
+use Rattle.outcomes.specs.Steps.{StoredOf}
+use Rattle.vectors.specs.Steps.{Ready}
 use Rattle.vectors.proofs.Finishing.{ready-sized, ready-placed, ready-distinct, ready-ordered, ready-sum, ready-short, ready-done}
 use Rattle.vectors.proofs.finish.Statement.{statement}
 use Rattle.vectors.proofs.finish.Tie as tie
@@ -19,7 +25,7 @@ use Rattle.vectors.proofs.finish.Tie as tie
 -- ---- after joining: the function's entry, and the stretches
 
 abbrev st : tie.After-join → tie.Start
-st j = j .before .before .before .before .before .before
+st j = j .before .before .before .before .before .before .before .before
 
 abbrev B : tie.After-join → List ℕ
 B j = j .join .last .1 .1 .1 .0
@@ -45,14 +51,59 @@ in-C : (o : tie.After-order) → m o ≤ length (C o)
 in-C o = omega (arith, o .order .kept .0, long-B (at o), at o .join .ensures .0, start o .pre .1 .few)
 
 bytes : (o : tie.After-order) → Bytes (start o .args .memory .now)
-bytes o = bytes-at (start o .args .memory .now) (λ i. at o .before .before .before .slice-known .given i .fits)
+bytes o = bytes-at (start o .args .memory .now) (λ i. at o .before .before .before .before .before .slice-known .given i .fits)
+
+-- ---- one stretch of doublewords
+
+eights : (W L step size : ℕ) (stored A : List ℕ) (n : ℕ) (es : List Element) → size ≡ 8 → Ready W L step size stored A n es
+    → Ready W L 8 8 stored A n es
+eights W L step size stored A n es e R =
+    subst (λ (k : ℕ). Ready W L 8 k stored A n es) e (subst (λ (k : ℕ). Ready W L k size stored A n es) (R .doubleword e) R)
+
+of-eights : (W size : ℕ) (mem out : List ℕ) (es : List Element) (v : Verdict) (mem′ out′ : List ℕ) → size ≡ 8
+    → StoredOf W 8 mem out es v mem′ out′ → StoredOf W size mem out es v mem′ out′
+of-eights W size mem out es v mem′ out′ e = subst (λ (k : ℕ). StoredOf W k mem out es v mem′ out′) (sym e)
+
+-- where the test holds: the function's entry, and what was told
+abbrev begun : tie.Then1 → tie.Start
+begun i = i .before .before .before .before .before .before
+
+told : (i : tie.Then1) → (begun i .args .size ≡ 8) × (length (joined 8 (entries (begun i .args .keys .now) 0 (begun i .args .n))) ≡ 1)
+told i =
+    let o = i .before .is-one in
+    let t = both (eqb (begun i .args .size) 8) (o .result) (i .if1 .taken) in
+    (eqb-true _ 8 (t .0), eqb-true _ 1 (sym (o .ensures) ∙ t .1))
+
+is-one-requires : tie.Need-is-one-requires
+is-one-requires c κs = (c .before .before .before .before .pre .1 .in-array, omega arith)
+
+finish-one-requires : tie.Need-finish-one-requires
+finish-one-requires c κs =
+    let i = c .before .before in
+    let a = begun i in
+    ((a .pre .0, eights _ _ _ _ _ _ _ _ (told i .0) (a .pre .1)), told i .1)
+
+same-length : tie.Need-same-length
+same-length c = search needs
+
+same-length-2 : tie.Need-same-length-2
+same-length-2 c = search needs
+
+returns : tie.Need-returns
+returns c =
+    let f = c .before .before .before .before in
+    let i = f .before .before .before in
+    λ es R.
+    of-eights _ _ _ _ es _ _ _ (told i .0) (f .finish-one .ensures es (eights _ _ _ _ _ _ _ es (told i .0) R))
+
+-- ---- any others
 
 slice-aggregate-join : tie.Need-slice-aggregate-join
 slice-aggregate-join c = search needs
 
 join-requires : tie.Need-join-requires
 join-requires c κs =
-    let a = c .before .before .before .before .before in
+    let a = c .before .before .before .before .before .before .before in
     (ready-sized _ _ _ (a .args .memory .now) _ _ _ (a .pre .0) (a .pre .1), a .pre .1 .few)
 
 slice-aggregate-order : tie.Need-slice-aggregate-order
@@ -86,12 +137,12 @@ has-room-requires c κs =
       p .1 .bytes,
     )
 
-returns : tie.Need-returns
-returns c =
+returns-2 : tie.Need-returns-2
+returns-2 c =
     let o = c .before .before .before .before in
     λ es R.
     ready-short _ _ _ (start o .args .memory .now) _ _ _ es R _ _ (at o .join .ensures .1) _ (o .order .ensures) (in-C o) (bytes o) _
-    (sym (c .before .has-room .ensures) ∙ not-true (c .before .has-room .result) (c .if1 .taken))
+    (sym (c .before .has-room .ensures) ∙ not-true (c .before .has-room .result) (c .if2 .taken))
 
 -- ---- there is room
 
@@ -106,13 +157,14 @@ room : (w : tie.After-write-vector)
     ≤ length (start (ordered (tested w)) .args .patch .now)
 room w =
     let h = tested w .has-room in
-    leb-true _ _ (sym (h .ensures) ∙ not-false (h .result) (w .before .before .if1 .left))
+    leb-true _ _ (sym (h .ensures) ∙ not-false (h .result) (w .before .before .if2 .left))
 
 write-vector-requires : tie.Need-write-vector-requires
 write-vector-requires c κs =
     let a = start (ordered (c .before .before)) in
     let r = a .pre .1 in
-    ((r .in-array, r .few, r .wide), ((r .width, r .doubleword, r .quadword), ready-placed _ _ _ (a .args .memory .now) _ _ _ (a .pre .0) r))
+    let p = ready-placed _ _ _ (a .args .memory .now) _ _ _ (a .pre .0) r in
+    ((r .in-array, r .few, r .wide), ((r .width, r .doubleword, r .quadword), p))
 
 slice-aggregate-compose : tie.Need-slice-aggregate-compose
 slice-aggregate-compose c = search needs
@@ -131,14 +183,14 @@ compose-requires c κs =
       room w,
     )
 
-same-length : tie.Need-same-length
-same-length c = search needs
+same-length-3 : tie.Need-same-length-3
+same-length-3 c = search needs
 
-same-length-2 : tie.Need-same-length-2
-same-length-2 c = search needs
+same-length-4 : tie.Need-same-length-4
+same-length-4 c = search needs
 
-returns-2 : tie.Need-returns-2
-returns-2 c =
+returns-3 : tie.Need-returns-3
+returns-3 c =
     let d = c .before .before in
     let w = d .before .before .before .before .before .before in
     let o = ordered (tested w) in
@@ -152,6 +204,11 @@ pub finish-spec : {M : Type 1} → statement M
 finish-spec =
     tie.close
     (tie.spec
+    is-one-requires
+    finish-one-requires
+    same-length
+    same-length-2
+    returns
     slice-aggregate-join
     join-requires
     slice-aggregate-order
@@ -159,10 +216,10 @@ finish-spec =
     slice-aggregate-has-room
     mul-has-room
     has-room-requires
-    returns
+    returns-2
     write-vector-requires
     slice-aggregate-compose
     compose-requires
-    same-length
-    same-length-2
-    returns-2)
+    same-length-3
+    same-length-4
+    returns-3)

@@ -2,8 +2,8 @@
 use mathlib.Core.Path.{sym, ap}
 use Rattle.verdicts.specs.Verdicts.{illegal}
 use borrow.Author.Needs.{needs}
-use Rattle.checks.proofs.is_illegal.Statement.{statement}
-use Rattle.checks.proofs.is_illegal.Tie as tie
+use Rattle.conditions.proofs.is_illegal.Statement.{statement}
+use Rattle.conditions.proofs.is_illegal.Tie as tie
 
 enum-told : tie.Need-enum-told
 enum-told c = search needs

@@ -1,15 +1,15 @@
--- `answers_of`: by the verdict. Assumes nothing.
+-- `answered`: by the verdict. Assumes nothing.
 use mathlib.Core.Path.{_≡_, refl, sym, ap, _∙_}
 use mathlib.Core.List.{List, [], _∷_, _++_}
 use Prim.Native.Nat.{ℕ}
 use lib.ListN.{getD}
-use Rattle.verdicts.specs.Verdicts.{detail}
+use Rattle.verdicts.specs.Verdicts.{number, detail}
 use Rattle.verdicts.specs.declared.Refusal.{Refusal}
 use Rattle.verdicts.specs.declared.Refusal.the-variants.{Length, Registers, Window, Undefined, Illegal, Stack, Fault, NoRoom}
 use Rattle.outcomes.specs.Storing.{numbers}
 use borrow.Author.Needs.{needs}
-use Rattle.numbers.proofs.answers_of.Statement.{statement}
-use Rattle.numbers.proofs.answers_of.Tie as tie
+use Rattle.numbers.proofs.answered.Statement.{statement}
+use Rattle.numbers.proofs.answered.Tie as tie
 
 abbrev six : List ℕ → List ℕ
 six l = getD l 0 0 ∷ getD l 1 0 ∷ 0 ∷ 0 ∷ 0 ∷ 0 ∷ []
@@ -34,28 +34,35 @@ enum-known-v-2 c = search needs
 detail-of-requires : tie.Need-detail-of-requires
 detail-of-requires c κs = search needs
 
-array-read-t12 : tie.Need-array-read-t12
-array-read-t12 c = search needs
+array-read-t13 : tie.Need-array-read-t13
+array-read-t13 c = search needs
 
-array-read-t15 : tie.Need-array-read-t15
-array-read-t15 c = search needs
+array-read-t16 : tie.Need-array-read-t16
+array-read-t16 c = search needs
+
+refusal-number-requires : tie.Need-refusal-number-requires
+refusal-number-requires c κs = search needs
 
 returns : tie.Need-returns
-returns c = sym (ap numbers (c .before .v .given .1))
+returns c = let g = c .before .before .v .given in (sym (ap number (g .1)), sym (ap numbers (g .1)))
 
 returns-2 : tie.Need-returns-2
 returns-2 c =
-    let g = c .before .before .v2 .given in
-    ap six (c .detail-of .ensures) ∙ six-of (g .0 .0) ∙ sym (ap numbers (g .1))
+    let d = c .before .before in
+    let g = d .before .before .v2 .given in (
+      c .refusal-number .ensures ∙ sym (ap number (g .1)),
+      ap six (d .detail-of .ensures) ∙ six-of (g .0 .0) ∙ sym (ap numbers (g .1)),
+    )
 
-pub answers-of-spec : {M : Type 1} → statement M
-answers-of-spec =
+pub answered-spec : {M : Type 1} → statement M
+answered-spec =
     tie.close
     (tie.spec
     enum-known-v
     enum-known-v-2
     detail-of-requires
-    array-read-t12
-    array-read-t15
+    array-read-t13
+    array-read-t16
+    refusal-number-requires
     returns
     returns-2)

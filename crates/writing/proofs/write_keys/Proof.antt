@@ -8,9 +8,9 @@ use native.Mathlib.Omega.{arith}
 use lib.ListN.{length, length-take, length-drop}
 use borrow.Author.Needs.{needs}
 use Rattle.cutting.proofs.Copying.{copied-part}
-use Rattle.vectors.proofs.Writing.{Writing, writing-first, writing-room, writing-next, writing-done}
-use Rattle.vectors.proofs.write_keys.Statement.{statement}
-use Rattle.vectors.proofs.write_keys.Tie as tie
+use Rattle.writing.proofs.Writing.{Writing, writing-first, writing-room, writing-next, writing-done}
+use Rattle.writing.proofs.write_keys.Statement.{statement}
+use Rattle.writing.proofs.write_keys.Tie as tie
 
 abbrev Inv-loop : tie.InvT-loop
 Inv-loop keys n step size stored memory₀ elements₀ bytes₀ t₀ memory elements bytes t =

@@ -5,8 +5,8 @@ use Rattle.encoding.specs.declared.Feature.{Feature}
 use Rattle.verdicts.specs.Verdicts.{flagOn}
 use Rattle.verdicts.specs.declared.Flags.{Flags}
 use borrow.Author.Needs.{needs}
-use Rattle.checks.proofs.is_off.Statement.{statement}
-use Rattle.checks.proofs.is_off.Tie as tie
+use Rattle.conditions.proofs.is_off.Statement.{statement}
+use Rattle.conditions.proofs.is_off.Tie as tie
 
 abbrev off : Flags → Feature → Bool
 off f x = not (flagOn f x)

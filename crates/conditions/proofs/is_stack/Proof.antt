@@ -3,8 +3,8 @@ use mathlib.Core.Path.{ap}
 use mathlib.Core.Bool.{Bool, not, _&&_, _||_}
 use Prim.Native.Nat.{_%_}
 use lib.Dec.{eqb}
-use Rattle.checks.proofs.is_stack.Statement.{statement}
-use Rattle.checks.proofs.is_stack.Tie as tie
+use Rattle.conditions.proofs.is_stack.Statement.{statement}
+use Rattle.conditions.proofs.is_stack.Tie as tie
 
 returns : tie.Need-returns
 returns c =

@@ -10,9 +10,9 @@ use borrow.Author.Tests.{eqb-true, ne-eqb}
 use borrow.Author.Needs.{needs}
 use Rattle.elements.specs.Accesses.{isWidth}
 use Rattle.ordering.specs.Keys.{entries, Each}
-use Rattle.vectors.specs.Steps.{putAll, Placed}
-use Rattle.vectors.proofs.write_vector.Statement.{statement}
-use Rattle.vectors.proofs.write_vector.Tie as tie
+use Rattle.writing.specs.Writing.{putAll, Placed}
+use Rattle.writing.proofs.write_vector.Statement.{statement}
+use Rattle.writing.proofs.write_vector.Tie as tie
 
 -- of the five widths, the one that none of four tests met
 two-left : (n : ℕ) → isWidth n ≡ true → (n ≡ 8 → ⊥) → (n ≡ 1 → ⊥) → (n ≡ 16 → ⊥) → (n ≡ 4 → ⊥) → n ≡ 2
@@ -113,7 +113,8 @@ write-keys-requires-5 c κs =
     let f = c .before in
     let g = f .before in
     let a = g .before .before .before .before .before .before in
-    let e = two-left (a .args .size) (a .pre .1 .0 .0) (g .before .before .if1 .left) (g .before .if2 .left) (g .if3 .left) (f .if4 .left) in
+    let h = g .before in
+    let e = two-left (a .args .size) (a .pre .1 .0 .0) (h .before .if1 .left) (h .if2 .left) (g .if3 .left) (f .if4 .left) in
     ((a .pre .0 .0, a .pre .0 .1, omega arith), placed a (a .args .step) 2 refl e)
 
 same-length-5 : tie.Need-same-length-5
@@ -125,7 +126,8 @@ returns-5 c =
     let f = w .before .before in
     let g = f .before in
     let a = g .before .before .before .before .before .before in
-    let e = two-left (a .args .size) (a .pre .1 .0 .0) (g .before .before .if1 .left) (g .before .if2 .left) (g .if3 .left) (f .if4 .left) in
+    let h = g .before in
+    let e = two-left (a .args .size) (a .pre .1 .0 .0) (h .before .if1 .left) (h .if2 .left) (g .if3 .left) (f .if4 .left) in
     let r = w .write-keys5 .ensures in
     ((r .0 .0, counted a (a .args .step) 2 refl e (r .0 .1)), put a (a .args .step) 2 refl e (r .1))
 

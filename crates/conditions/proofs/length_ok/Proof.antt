@@ -1,8 +1,8 @@
 -- The five. Assumes nothing.
 use mathlib.Core.Path.{refl}
 use Rattle.verdicts.specs.Verdicts.{lengthOk}
-use Rattle.checks.proofs.length_ok.Statement.{statement}
-use Rattle.checks.proofs.length_ok.Tie as tie
+use Rattle.conditions.proofs.length_ok.Statement.{statement}
+use Rattle.conditions.proofs.length_ok.Tie as tie
 
 returns : tie.Need-returns
 unfolding lengthOk

@@ -13,7 +13,7 @@ use Rattle.stretches.specs.Stretches.{startOf, Seen, keyOf, keysOf}
 use Rattle.stretches.proofs.Keying.{key-start, key-number}
 use Rattle.cutting.specs.Cutting.{part}
 use Rattle.cutting.proofs.Copying.{length-of-part}
-use Rattle.vectors.specs.Steps.{putAll, Placed, Held}
+use Rattle.writing.specs.Writing.{putAll, Placed, Held}
 
 -- the keys from t on are left
 pub record Writing (A : List ℕ) (n step size : ℕ) (stored mem₀ mem : List ℕ) (t : ℕ) : Type 0 where

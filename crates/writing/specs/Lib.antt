@@ -1,0 +1,2 @@
+-- ---- what serves the contracts of the code's own functions
+pub mod Writing
