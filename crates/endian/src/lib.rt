@@ -154,7 +154,8 @@ pub fn copy_any(dst: &mut [u8], src: &[u8])
 }
 
 // All bytes of one slice into another of its length. An element's bytes, 8, 16, 1, 4 or 2, are moved where this is called; the rest is
-// `copy_any`, which has a second caller in `cutting`: what is called from one place alone would be moved there too.
+// `copy_any`, which has a second caller in `cutting`: what is called from one place alone would be moved there too. Five comparisons in a
+// row would be made one jump through a table: a comparison by order stands between.
 pub fn copy(dst: &mut [u8], src: &[u8])
     requires { ⌜ length (now src) ≡ length (now dst) ⌝ }
     ensures { λ _. ⌜ now (dst .exit) ≡ now (src .entry) ⌝ }
@@ -172,13 +173,15 @@ pub fn copy(dst: &mut [u8], src: &[u8])
         dst[0] = src[0];
         return;
     }
-    if n == 4 {
-        copy4(dst, src, 0);
-        return;
-    }
-    if n == 2 {
-        copy2(dst, src, 0);
-        return;
+    if n < 5 {
+        if n == 4 {
+            copy4(dst, src, 0);
+            return;
+        }
+        if n == 2 {
+            copy2(dst, src, 0);
+            return;
+        }
     }
     copy_any(dst, src);
 }

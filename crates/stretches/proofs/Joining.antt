@@ -1,18 +1,19 @@
 -- Keys joined, one after another. Assumes nothing.
 use mathlib.Core.Path.{_≡_, refl, sym, ap, ap₂, _∙_, subst}
-use mathlib.Core.Bool.{Bool, true, false, cond}
+use mathlib.Core.Bool.{Bool, true, false, cond, _&&_}
 use Prim.Native.Nat.{ℕ, zero, suc, _+_, _-_, _*_, _/_, _%_, _≤_, _<_}
 use mathlib.Core.List.{List, [], _∷_, _++_, append-assoc}
 use native.Mathlib.Nat.{suc-mul, mul-le-mul-right}
 use native.Mathlib.Omega.{arith}
 use native.Mathlib.Numerals.{add-one}
-use lib.Dec.{eqb}
+use lib.Dec.{eqb, ltb}
 use lib.ListN.{length, getD, set, length-set}
 use lib.Seq.{getD-set-same, getD-set-other, set-getD}
-use borrow.Author.Tests.{eq-eqb, ne-eqb}
-use Rattle.ordering.specs.Keys.{numberOf, entries, Each}
-use Rattle.ordering.proofs.Sorting.{entries-cons, entries-none, entries-all, entries-same, entries-snoc, length-entries, entry}
-use Rattle.stretches.specs.Stretches.{startOf, bytesOf, joinedFrom, joined, Sized}
+use borrow.Author.Tests.{eq-eqb, ne-eqb, ltb-true}
+use Rattle.endian.proofs.Order.{both}
+use Rattle.ordering.specs.Keys.{numberOf, entries, sorted, Each}
+use Rattle.ordering.proofs.Sorting.{entries-cons, entries-none, entries-all, entries-same, entries-snoc, length-entries, entry, Asc, asc-sorted}
+use Rattle.stretches.specs.Stretches.{startOf, bytesOf, joinedFrom, joined, ascendsFrom, ascends, Sized}
 
 -- ---- the digits of a stretch that grows
 
@@ -204,6 +205,89 @@ module _ (A : List ℕ) (n size N : ℕ) (z : Sized A n size) where
 pub joined-none : (A B : List ℕ) (n size : ℕ) → n ≡ 0 → entries B 0 0 ≡ joined size (entries A 0 n)
 unfolding entries joined
 joined-none A B n size e = ap (λ (y : ℕ). joined size (entries A 0 y)) (sym e)
+
+-- ---- whether stretches ascend: r so far, with what the keys from t on tell behind s
+
+pub record Ascending (A : List ℕ) (n size s last t : ℕ) (r : Bool) : Type 0 where
+  pub same : r && ascendsFrom size s last (entries A t (n - t)) ≡ ascends size (entries A 0 n)
+
+and-true : (r : Bool) → r && true ≡ r
+and-true true = refl
+and-true false = refl
+
+and-assoc : (a b c : Bool) → (a && b) && c ≡ a && (b && c)
+and-assoc true b c = refl
+and-assoc false b c = refl
+
+module _ (A : List ℕ) (n size : ℕ) where
+  pub ascends-none : n ≡ 0 → true ≡ ascends size (entries A 0 n)
+  unfolding ascends entries
+  ascends-none e = ap (λ (z : ℕ). ascends size (entries A 0 z)) (sym e)
+
+  pub ascending-first : 0 < n → Ascending A n size (getD A 0 0) (getD A 0 0) 1 true
+  unfolding ascends
+  ascending-first h =
+      let w : 0 + 1 ≡ 1 = omega arith in
+      let g : entries A 0 n ≡ getD A 0 0 ∷ entries A 1 (n - 1) =
+      sym (entries-all A n) ∙ entries-cons A n 0 h ∙ ap (λ (y : ℕ). getD A 0 0 ∷ entries A y (n - y)) w in
+      record { same = ap (ascends size) (sym g) }
+
+  module _ (s last t : ℕ) (r : Bool) (a : Ascending A n size s last t r) where
+    module _ (h : t < n) where
+      abbrev here : ℕ
+      here = getD A t 0
+
+      abbrev left : List ℕ
+      left = entries A (t + 1) (n - (t + 1))
+
+      told : r && ascendsFrom size s last (here ∷ left) ≡ ascends size (entries A 0 n)
+      told = ap (λ (X : List ℕ). r && ascendsFrom size s last X) (sym (entries-cons A n t h)) ∙ a .same
+
+      pub ascending-on : (s′ : ℕ) → startOf last + size ≡ startOf here → s′ ≡ s + size * 256 → Ascending A n size s′ here (t + 1) r
+      unfolding ascendsFrom
+      ascending-on s′ g e =
+          record {
+            same = ap (λ (x : ℕ). r && ascendsFrom size x here left) e
+                ∙ ap (λ (b : Bool). r && cond b (ascendsFrom size (s + size * 256) here left) (ltb s here && ascendsFrom size here here left))
+                (sym (eq-eqb (startOf last + size) (startOf here) g))
+                ∙ told;
+          }
+
+      pub ascending-new : (r′ : Bool) → (startOf last + size ≡ startOf here → ⊥) → r′ ≡ r && ltb s here
+          → Ascending A n size here here (t + 1) r′
+      unfolding ascendsFrom
+      ascending-new r′ g e =
+          record {
+            same = ap (λ (b : Bool). b && ascendsFrom size here here left) e ∙ and-assoc r (ltb s here) (ascendsFrom size here here left)
+                ∙ ap (λ (b : Bool). r && cond b (ascendsFrom size (s + size * 256) here left) (ltb s here && ascendsFrom size here here left))
+                (sym (ne-eqb (startOf last + size) (startOf here) g))
+                ∙ told;
+          }
+
+    pub ascending-done : n ≤ t → r ≡ ascends size (entries A 0 n)
+    unfolding ascendsFrom
+    ascending-done h =
+        sym (and-true r) ∙ ap (λ (X : List ℕ). r && ascendsFrom size s last X) (sym (entries-none A n t h)) ∙ a .same
+
+-- stretches of which that is told are in order
+asc-from : (size f s last : ℕ) (K : List ℕ) → f ≤ s → ascendsFrom size s last K ≡ true → Asc f (joinedFrom size s last K)
+unfolding ascendsFrom joinedFrom
+asc-from size f s last [] h e = (h, tt)
+asc-from size f s last (k ∷ K) h e =
+    go (eqb (startOf last + size) (startOf k)) (asc-from size f (s + size * 256) k K (omega arith))
+    (λ l. asc-from size s k k K (omega arith)) e
+  where
+    go : (b : Bool) → (ascendsFrom size (s + size * 256) k K ≡ true → Asc f (joinedFrom size (s + size * 256) k K))
+        → (s < k → ascendsFrom size k k K ≡ true → Asc s (joinedFrom size k k K))
+        → cond b (ascendsFrom size (s + size * 256) k K) (ltb s k && ascendsFrom size k k K) ≡ true
+        → Asc f (cond b (joinedFrom size (s + size * 256) k K) (s ∷ joinedFrom size k k K))
+    go true p q e = p e
+    go false p q e = let r = both (ltb s k) (ascendsFrom size k k K) e in (h, q (ltb-true s k (r .0)) (r .1))
+
+pub ascends-sorted : (size : ℕ) (K : List ℕ) → ascends size K ≡ true → sorted (joined size K) ≡ joined size K
+unfolding ascends joined sorted
+ascends-sorted size [] e = refl
+ascends-sorted size (k ∷ K) e = asc-sorted 0 (joinedFrom size k k K) (asc-from size 0 k k K (omega arith) e)
 
 -- ---- keys that are one stretch: those from t on are left, behind `last`, and make as many as all
 

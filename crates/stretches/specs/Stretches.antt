@@ -1,7 +1,7 @@
 -- Elements that lie side by side are one stretch. A stretch is a number: its start, an offset in the window, times 65536, its bytes
 -- less one times 256, and the number of its first element. Assumes nothing.
 use Prim.Native.Nat.{ℕ, suc, _+_, _-_, _*_, _/_, _%_, _≤_, _<_}
-use mathlib.Core.Bool.{cond}
+use mathlib.Core.Bool.{Bool, true, cond, _&&_}
 use mathlib.Core.List.{List, [], _∷_}
 use mathlib.Core.Path.{_≡_}
 use lib.Dec.{eqb, ltb}
@@ -78,6 +78,17 @@ unfoldable pub joined : ℕ → List ℕ → List ℕ
 unfolding joinedFrom
 joined size [] = []
 joined size (k ∷ K) = joinedFrom size k k K
+
+-- whether each stretch is lower than the key that begins the next: stretches only grow, and so ascend then
+unfoldable pub ascendsFrom : ℕ → ℕ → ℕ → List ℕ → Bool
+ascendsFrom size s last [] = true
+ascendsFrom size s last (k ∷ K) =
+    cond (eqb (startOf last + size) (startOf k)) (ascendsFrom size (s + size * 256) k K) (ltb s k && ascendsFrom size k k K)
+
+unfoldable pub ascends : ℕ → List ℕ → Bool
+unfolding ascendsFrom
+ascends size [] = true
+ascends size (k ∷ K) = ascendsFrom size k k K
 
 -- the first n keys of an array, of `size` bytes each, at most 256 together
 pub record Sized (A : List ℕ) (n size : ℕ) : Type 0 where

@@ -3,9 +3,9 @@ ghost use mathlib.Core.Path.{_≡_};
 ghost use Prim.Native.Nat.{_+_, _-_, _<_, _≤_};
 ghost use lib.Dec.{eqb, leb};
 ghost use lib.ListN.{length};
-ghost use Rattle.ordering.specs.Keys.{entries};
+ghost use Rattle.ordering.specs.Keys.{entries, sorted, Distinct};
 ghost use Rattle.stretches.specs.Intervals.{total};
-ghost use Rattle.stretches.specs.Stretches.{startOf, endOf, merged, Grew, joined, Sized, sum};
+ghost use Rattle.stretches.specs.Stretches.{startOf, endOf, merged, Grew, joined, ascends, Sized, sum};
 
 // Where a stretch starts, and where it ends, as offsets in the window.
 pub fn start_of(k: u32) -> usize
@@ -78,20 +78,32 @@ pub fn is_one(keys: &[u32], n: usize, size: usize) -> bool
     true
 }
 
+// How many stretches keys make, and whether those ascend.
+struct JoinedKeys {
+    count: usize,
+    ascending: bool,
+}
+
 // Joins keys each of which starts where the one before ends: a stretch has its first element's key, with the bytes of all. The entries
 // behind the stretches are left free; nobody reads them.
-pub fn join(keys: &[u32], n: usize, size: usize, stretches: &mut [u32]) -> usize
+fn join(keys: &[u32], n: usize, size: usize, stretches: &mut [u32]) -> JoinedKeys
     requires { ⌜ Sized (now keys) n size × (n ≤ length (now stretches)) ⌝ }
-    ensures { λ r. ⌜ (r ≤ n) × (entries (now (stretches .exit)) 0 r ≡ joined size (entries (now (keys .entry)) 0 n)) ⌝ }
+    ensures { λ r.
+        ⌜ (r .count ≤ n) × (entries (now (stretches .exit)) 0 (r .count) ≡ joined size (entries (now (keys .entry)) 0 n))
+        × (r .ascending ≡ ascends size (entries (now (keys .entry)) 0 n)) ⌝ }
 {
     if n == 0 {
-        return 0;
+        return JoinedKeys {
+            count: 0,
+            ascending: true,
+        };
     }
     let mut last = keys[0];
     let mut s = last;
     stretches[0] = s;
     let mut m: usize = 1;
     let mut t: usize = 1;
+    let mut ascending = true;
     while t < n {
         let k = keys[t];
         let meets = start_of(last) + size == start_of(k);
@@ -102,10 +114,29 @@ pub fn join(keys: &[u32], n: usize, size: usize, stretches: &mut [u32]) -> usize
             stretches[m - 1] = s;
             continue;
         }
+        ascending = ascending & (s < k);
         s = k;
         stretches[m] = s;
         m += 1;
     }
+    JoinedKeys {
+        count: m,
+        ascending,
+    }
+}
+
+// Joins keys, and puts the stretches in ascending order where they don't ascend. Answers how many there are. The entries behind them are
+// left free; nobody reads them.
+pub fn join_in_order(keys: &[u32], n: usize, size: usize, stretches: &mut [u32]) -> usize
+    requires { ⌜ Sized (now keys) n size × (n ≤ length (now stretches)) × (n ≤ 64) × Distinct (joined size (entries (now keys) 0 n)) ⌝ }
+    ensures { λ r. ⌜ (r ≤ n) × (entries (now (stretches .exit)) 0 r ≡ sorted (joined size (entries (now (keys .entry)) 0 n))) ⌝ }
+{
+    let j = join(keys, n, size, stretches);
+    let m = j.count;
+    if j.ascending {
+        return m;
+    }
+    ordering::order(stretches, m);
     m
 }
 

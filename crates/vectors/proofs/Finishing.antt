@@ -13,7 +13,7 @@ use Rattle.writes.specs.Encoding.{encodeRuns, encode}
 use Rattle.writes.specs.Elements.{Element, netEffect, written, stepsOf}
 use Rattle.endian.specs.Overwriting.{overwritten}
 use Rattle.ordering.specs.Keys.{entries, filed, sorted, Each, Distinct}
-use Rattle.ordering.proofs.Sorting.{length-entries, entries-all, entries-cons}
+use Rattle.ordering.proofs.Sorting.{length-entries, entries-all, entries-cons, length-sorted}
 use Rattle.stretches.specs.Intervals.{Interval, interval, total}
 use Rattle.stretches.specs.Stretches.{startOf, bytesOf, keysOf, joined, mergedFrom, merged, sum, Sized, Rising, Ordered}
 use Rattle.stretches.proofs.Joining.{open-one, size-at}
@@ -55,50 +55,49 @@ module _ (W step size : ℕ) (mem stored A : List ℕ) (n : ℕ) (es : List Elem
       ap (λ (K : List ℕ). putAll step size stored K mem) (R .keys)
       ∙ keys-written W (length mem) step size stored (R .some) (R .wide) 0 mem es (R .seen) (R .held)
 
-  module _ (B : List ℕ) (m : ℕ) (j : entries B 0 m ≡ joined size (entries A 0 n)) where
-    joined-are : entries B 0 m ≡ joined size (keysOf W size es)
-    joined-are = j ∙ ap (joined size) (R .keys)
+  pub ready-distinct : Distinct (joined size (entries A 0 n))
+  ready-distinct =
+      subst (λ (K : List ℕ). Distinct (joined size K)) (sym (R .keys))
+      (stretches-distinct W (length mem) size (R .some) (R .wide) es (R .seen) few)
 
-    pub ready-distinct : Distinct (entries B 0 m)
-    ready-distinct = subst Distinct (sym joined-are) (stretches-distinct W (length mem) size (R .some) (R .wide) es (R .seen) few)
+  module _ (C : List ℕ) (m : ℕ) (s : entries C 0 m ≡ sorted (joined size (entries A 0 n))) (l : m ≤ length C) (b : Bytes mem) where
+    sorted-are : entries C 0 m ≡ sorted (joined size (keysOf W size es))
+    sorted-are = s ∙ ap (λ (K : List ℕ). sorted (joined size K)) (R .keys)
 
-    module _ (C : List ℕ) (s : entries C 0 m ≡ sorted (entries B 0 m)) (l : m ≤ length C) (b : Bytes mem) where
-      sorted-are : entries C 0 m ≡ sorted (joined size (keysOf W size es))
-      sorted-are = s ∙ ap sorted joined-are
+    pub ready-ordered : Ordered C m (length mem)
+    ready-ordered = patch-ordered W size mem es (R .top) (R .small) b (R .some) (R .wide) (R .fits) (R .seen) few C m l sorted-are
 
-      pub ready-ordered : Ordered C m (length mem)
-      ready-ordered = patch-ordered W size mem es (R .top) (R .small) b (R .some) (R .wide) (R .fits) (R .seen) few C m l sorted-are
+    pub ready-sum : sum (entries C 0 m) ≡ n * size
+    ready-sum =
+        patch-sum W size mem es (R .top) (R .small) b (R .some) (R .wide) (R .fits) (R .seen) few C m l sorted-are
+        ∙ ap (λ (z : ℕ). z * size) (sym ready-count)
 
-      pub ready-sum : sum (entries C 0 m) ≡ n * size
-      ready-sum =
-          patch-sum W size mem es (R .top) (R .small) b (R .some) (R .wide) (R .fits) (R .seen) few C m l sorted-are
-          ∙ ap (λ (z : ℕ). z * size) (sym ready-count)
+    long : length (encode (netEffect es)) ≡ total (merged (entries C 0 m)) + 4
+    long = patch-length W size mem es (R .top) (R .small) b (R .some) (R .wide) (R .fits) (R .seen) few C m l sorted-are
 
-      long : length (encode (netEffect es)) ≡ total (merged (entries C 0 m)) + 4
-      long = patch-length W size mem es (R .top) (R .small) b (R .some) (R .wide) (R .fits) (R .seen) few C m l sorted-are
+    -- a stretch is a step
+    steps : m ≡ stepsOf es
+    steps =
+        sym (length-entries C 0 m) ∙ ap length sorted-are ∙ length-sorted (joined size (keysOf W size es))
+        ∙ stretches-steps W (length mem) size (R .some) (R .wide) es (R .seen)
 
-      -- a stretch is a step
-      steps : m ≡ stepsOf es
-      steps =
-          sym (length-entries B 0 m) ∙ ap length joined-are ∙ stretches-steps W (length mem) size (R .some) (R .wide) es (R .seen)
+    pub ready-short : (out : List ℕ) → leb (total (merged (entries C 0 m)) + 4) (length out) ≡ false
+        → StoredOf W size mem out es (Refused NoRoom) mem out
+    unfolding patchOf
+    ready-short out h =
+        stored-short W size mem out es (R .inside) (omega (arith, long, leb-false (total (merged (entries C 0 m)) + 4) (length out) h))
 
-      pub ready-short : (out : List ℕ) → leb (total (merged (entries C 0 m)) + 4) (length out) ≡ false
-          → StoredOf W size mem out es (Refused NoRoom) mem out
-      unfolding patchOf
-      ready-short out h =
-          stored-short W size mem out es (R .inside) (omega (arith, long, leb-false (total (merged (entries C 0 m)) + 4) (length out) h))
-
-      pub ready-done : (out mem′ out′ : List ℕ) (k b′ r : ℕ) → total (merged (entries C 0 m)) + 4 ≤ length out → k ≡ n → b′ ≡ n * size
-          → mem′ ≡ putAll step size stored (entries A 0 n) mem → r ≡ total (merged (entries C 0 m)) + 4
-          → out′ ≡ overwritten out 0 (encodeRuns (cut W mem′ (merged (entries C 0 m))))
-          → StoredOf W size mem out es (Done k b′ r m) mem′ out′
-      unfolding patchOf
-      ready-done out mem′ out′ k b′ r h ek eb em er eo =
-          stored-done W size mem out es (R .inside) k b′ r m mem′ out′ (ek ∙ ready-count) (eb ∙ ap (λ (z : ℕ). z * size) ready-count)
-          (er ∙ sym long) steps
-          (omega (arith, long)) (em ∙ ready-written)
-          (patch-made W size mem es (R .top) (R .small) b (R .some) (R .wide) (R .fits) (R .seen) few C m l sorted-are mem′ out out′
-          (em ∙ ready-written) eo)
+    pub ready-done : (out mem′ out′ : List ℕ) (k b′ r : ℕ) → total (merged (entries C 0 m)) + 4 ≤ length out → k ≡ n → b′ ≡ n * size
+        → mem′ ≡ putAll step size stored (entries A 0 n) mem → r ≡ total (merged (entries C 0 m)) + 4
+        → out′ ≡ overwritten out 0 (encodeRuns (cut W mem′ (merged (entries C 0 m))))
+        → StoredOf W size mem out es (Done k b′ r m) mem′ out′
+    unfolding patchOf
+    ready-done out mem′ out′ k b′ r h ek eb em er eo =
+        stored-done W size mem out es (R .inside) k b′ r m mem′ out′ (ek ∙ ready-count) (eb ∙ ap (λ (z : ℕ). z * size) ready-count)
+        (er ∙ sym long) steps
+        (omega (arith, long)) (em ∙ ready-written)
+        (patch-made W size mem es (R .top) (R .small) b (R .some) (R .wide) (R .fits) (R .seen) few C m l sorted-are mem′ out out′
+        (em ∙ ready-written) eo)
 
   -- ---- one stretch: the first key, with the bytes of all
 
@@ -152,9 +151,9 @@ module _ (W step size : ℕ) (mem stored A : List ℕ) (n : ℕ) (es : List Elem
     unfolding entries
     one-entry = refl
 
-    one-sorted : entries (stretch ∷ []) 0 1 ≡ sorted (entries (stretch ∷ []) 0 1)
+    one-sorted : entries (stretch ∷ []) 0 1 ≡ sorted (joined size (entries A 0 n))
     unfolding entries sorted filed
-    one-sorted = refl
+    one-sorted = ap sorted one-joined
 
     one-total : total (merged (entries (stretch ∷ []) 0 1)) + 4 ≡ n * size + 16
     unfolding total
@@ -162,14 +161,14 @@ module _ (W step size : ℕ) (mem stored A : List ℕ) (n : ℕ) (es : List Elem
 
     pub one-inside : Bytes mem → startOf (getD A 0 0) + n * size ≤ length mem
     one-inside b =
-        let o = ready-ordered (stretch ∷ []) 1 (one-entry ∙ one-joined) (stretch ∷ []) one-sorted (omega arith) b in
+        let o = ready-ordered (stretch ∷ []) 1 one-sorted (omega arith) b in
         let r : Rising (length mem) 0 (stretch ∷ []) = subst (Rising (length mem) 0) one-entry (o .rising) in
         omega (arith, r .1, one-start, one-bytes)
 
     module _ (b : Bytes mem) (out : List ℕ) where
       pub one-short : length out < n * size + 16 → StoredOf W size mem out es (Refused NoRoom) mem out
       one-short h =
-          ready-short (stretch ∷ []) 1 (one-entry ∙ one-joined) (stretch ∷ []) one-sorted (omega arith) b out
+          ready-short (stretch ∷ []) 1 one-sorted (omega arith) b out
           (lt-leb (total (merged (entries (stretch ∷ []) 0 1)) + 4) (length out) (omega (arith, one-total)))
 
       pub one-done : n * size + 16 ≤ length out → (mem′ out′ : List ℕ) (k b′ r : ℕ) → k ≡ n → b′ ≡ n * size
@@ -177,6 +176,6 @@ module _ (W step size : ℕ) (mem stored A : List ℕ) (n : ℕ) (es : List Elem
           → out′ ≡ overwritten out 0 (encodeRuns (cut W mem′ (interval (startOf (getD A 0 0)) (n * size) ∷ [])))
           → StoredOf W size mem out es (Done k b′ r 1) mem′ out′
       one-done h mem′ out′ k b′ r ek eb em er eo =
-          ready-done (stretch ∷ []) 1 (one-entry ∙ one-joined) (stretch ∷ []) one-sorted (omega arith) b out mem′ out′ k b′ r
+          ready-done (stretch ∷ []) 1 one-sorted (omega arith) b out mem′ out′ k b′ r
           (omega (arith, one-total)) ek eb em (er ∙ sym one-total)
           (eo ∙ ap (λ (I : List Interval). overwritten out 0 (encodeRuns (cut W mem′ I))) (sym (ap merged one-entry ∙ one-merged)))

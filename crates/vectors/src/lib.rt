@@ -48,7 +48,7 @@ fn finish_one(
     }
 }
 
-// From the keys on: join, order, room, memory, patch.
+// From the keys on: stretches in order, room, memory, patch.
 fn finish(
     keys: &[u32],
     n: usize,
@@ -69,8 +69,7 @@ fn finish(
         return finish_one(keys, n, stored, base, memory, patch);
     }
     let mut stretches = [0u32; 64];
-    let m = stretches::join(keys, n, size, &mut stretches);
-    ordering::order(&mut stretches, m);
+    let m = stretches::join_in_order(keys, n, size, &mut stretches);
     if !stretches::has_room(&stretches, m, n * size, patch.len()) {
         return Verdict::Refused {
             refusal: Refusal::NoRoom,

@@ -56,8 +56,8 @@ returns-4 : tie.Need-returns-4
 returns-4 c =
     let moved = c .before .before in
     let test = moved .before .before in
-    let st = test .before .before .before .before .before .before in
-    copied-once (st .args .src .now) (st .args .dst .now) _ _ (st .pre) (test .if4 .taken) (moved .copy4 .ensures)
+    let st = test .before .before .before .before .before .before .before in
+    copied-once (st .args .src .now) (st .args .dst .now) _ _ (st .pre) (test .if5 .taken) (moved .copy4 .ensures)
 
 copy2-requires : tie.Need-copy2-requires
 copy2-requires c κs = search needs
@@ -69,8 +69,8 @@ returns-5 : tie.Need-returns-5
 returns-5 c =
     let moved = c .before .before in
     let test = moved .before .before in
-    let st = test .before .before .before .before .before .before .before in
-    copied-once (st .args .src .now) (st .args .dst .now) _ _ (st .pre) (test .if5 .taken) (moved .copy2 .ensures)
+    let st = test .before .before .before .before .before .before .before .before in
+    copied-once (st .args .src .now) (st .args .dst .now) _ _ (st .pre) (test .if6 .taken) (moved .copy2 .ensures)
 
 copy-any-requires : tie.Need-copy-any-requires
 copy-any-requires c κs = search needs

@@ -1,5 +1,6 @@
 -- `join`: each key grows the last stretch, or begins one. The invariant is `Joining`: the stretches so far, the last of them
--- grown by the keys from t on, and those behind it are the stretches of all. Assumes nothing.
+-- grown by the keys from t on, and those behind it are the stretches of all; and `Ascending`, the same of whether they ascend. Assumes
+-- nothing.
 use mathlib.Core.Path.{refl, _∙_}
 use Prim.Native.Nat.{_+_, _-_, _≤_, _<_}
 use lib.ListN.{length, length-set}
@@ -8,14 +9,16 @@ use borrow.Author.Needs.{needs}
 use borrow.Author.Tests.{eqb-true, eqb-false}
 use Rattle.stretches.specs.Stretches.{startOf, bytesOf}
 use Rattle.stretches.proofs.Joining.{Joining, joining-first, joining-small, joining-on, joining-new, joining-done, joined-none}
+use Rattle.stretches.proofs.Joining.{Ascending, ascends-none, ascending-first, ascending-on, ascending-new, ascending-done}
 use Rattle.stretches.proofs.join.Statement.{statement}
 use Rattle.stretches.proofs.join.Tie as tie
 
 abbrev Inv-loop : tie.InvT-loop
-Inv-loop keys n size stretches₀ last₀ s₀ m₀ t₀ stretches last s m t = Joining keys n size (length stretches₀) stretches s last m t
+Inv-loop keys n size stretches₀ last₀ s₀ m₀ t₀ ascending₀ stretches last s m t ascending =
+    Joining keys n size (length stretches₀) stretches s last m t × Ascending keys n size s last t ascending
 
 abbrev μ-loop : tie.MeasureT-loop
-μ-loop keys n size stretches₀ last₀ s₀ m₀ t₀ stretches last s m t = n - t
+μ-loop keys n size stretches₀ last₀ s₀ m₀ t₀ ascending₀ stretches last s m t ascending = n - t
 
 abbrev entry : tie.At-loop Inv-loop μ-loop → tie.Start Inv-loop μ-loop
 entry l = l .before .before .before .before .before
@@ -29,7 +32,7 @@ bounds : (i : tie.In-loop Inv-loop μ-loop)
     × (entry (i .before) .args .n ≤ length (i .before .loop .stretches)) × (startOf (i .before .loop .s) < 65536)
     × (bytesOf (i .before .loop .s) + entry (i .before) .args .size ≤ 256)
 bounds i =
-    let j = i .before .loop .inv in (
+    let j = i .before .loop .inv .0 in (
       j .some,
       j .few,
       i .loop-test .taken,
@@ -39,7 +42,7 @@ bounds i =
     )
 
 returns : tie.Need-returns Inv-loop μ-loop
-returns c = (omega arith, joined-none _ _ _ _ (omega arith))
+returns c = (omega arith, joined-none _ _ _ _ (omega arith), ascends-none _ _ _ (omega arith))
 
 shared-slice-read-last : tie.Need-shared-slice-read-last Inv-loop μ-loop
 shared-slice-read-last c = omega (arith, c .before .before .before .before .pre .0 .in-array)
@@ -49,9 +52,11 @@ slice-write-stretches c = omega arith
 
 loop-holds : tie.Need-loop-holds Inv-loop μ-loop
 loop-holds c =
-    let start = c .before .before .before .before in
-    joining-first _ _ _ _ (start .pre .0) (start .args .stretches .now) refl (start .pre .1) (omega arith)
-    (omega (arith, c .shared-slice-known2 .given 0))
+    let start = c .before .before .before .before in (
+      joining-first _ _ _ _ (start .pre .0) (start .args .stretches .now) refl (start .pre .1) (omega arith)
+          (omega (arith, c .shared-slice-known2 .given 0)),
+      ascending-first _ _ _ (omega arith),
+    )
 
 mul-k : tie.Need-mul-k Inv-loop μ-loop
 mul-k c = omega (arith, entry (c .before) .pre .0 .in-array)
@@ -96,8 +101,13 @@ loop-again : tie.Need-loop-again Inv-loop μ-loop
 loop-again c =
     let k = c .before in
     let i = turn k in
-    joining-on _ _ _ _ (entry (i .before) .pre .0) _ _ _ _ _ (i .before .loop .inv) (omega arith)
-    _ _ _ (k .before .start-of .ensures .0) (k .start-of2 .ensures .0) (eqb-true _ _ (c .if2 .taken)) (omega arith)
+    let v = i .before .loop .inv in
+    let a = k .before .start-of .ensures .0 in
+    let b = k .start-of2 .ensures .0 in
+    let e = eqb-true _ _ (c .if2 .taken) in (
+      joining-on _ _ _ _ (entry (i .before) .pre .0) _ _ _ _ _ (v .0) (omega arith) _ _ _ a b e (omega arith),
+      ascending-on _ _ _ _ _ _ _ (v .1) (omega arith) _ (omega (arith, a, b, e)) (omega arith),
+    )
 
 mul-stretches-2 : tie.Need-mul-stretches-2 Inv-loop μ-loop
 mul-stretches-2 c = omega (arith, bounds (turn (c .before)))
@@ -115,16 +125,24 @@ loop-again-2 : tie.Need-loop-again-2 Inv-loop μ-loop
 loop-again-2 c =
     let k = c .before in
     let i = turn k in
-    joining-new _ _ _ _ (entry (i .before) .pre .0) _ _ _ _ _ (i .before .loop .inv) (omega arith)
-    _ _ (k .before .start-of .ensures .0) (k .start-of2 .ensures) (eqb-false _ _ (c .if2 .left))
+    let v = i .before .loop .inv in
+    let a = k .before .start-of .ensures .0 in
+    let b = k .start-of2 .ensures in
+    let e = eqb-false _ _ (c .if2 .left) in (
+      joining-new _ _ _ _ (entry (i .before) .pre .0) _ _ _ _ _ (v .0) (omega arith) _ _ a b e,
+      ascending-new _ _ _ _ _ _ _ (v .1) (omega arith) _ (λ q. e (omega (arith, a, b .0, q))) refl,
+    )
 
 same-length : tie.Need-same-length Inv-loop μ-loop
-same-length c = c .before .loop .inv .long ∙ length-set (entry (c .before) .args .stretches .now) 0 _
+same-length c = c .before .loop .inv .0 .long ∙ length-set (entry (c .before) .args .stretches .now) 0 _
 
 returns-2 : tie.Need-returns-2 Inv-loop μ-loop
 returns-2 c =
-    let j = c .before .loop .inv in
-    (omega (arith, j .few, j .most), joining-done _ _ _ _ (entry (c .before) .pre .0) _ _ _ _ _ j (omega arith))
+    let j = c .before .loop .inv .0 in (
+      omega (arith, j .few, j .most),
+      joining-done _ _ _ _ (entry (c .before) .pre .0) _ _ _ _ _ j (omega arith),
+      ascending-done _ _ _ _ _ _ _ (c .before .loop .inv .1) (omega arith),
+    )
 
 pub join-spec : {M : Type 1} → statement M
 join-spec =

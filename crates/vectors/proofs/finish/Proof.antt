@@ -1,4 +1,4 @@
--- `finish` of a scatter or quadword store: join, order, room, memory, patch. Each step's facts go to the laws of Finishing.
+-- `finish` of a scatter or quadword store: stretches in order, room, memory, patch. Each step's facts go to the laws of Finishing.
 -- Assumes nothing.
 use mathlib.Core.Path.{_≡_, sym, _∙_, subst}
 use mathlib.Core.List.{List}
@@ -22,36 +22,22 @@ use Rattle.vectors.proofs.Finishing.{ready-sized, ready-placed, ready-d
 use Rattle.vectors.proofs.finish.Statement.{statement}
 use Rattle.vectors.proofs.finish.Tie as tie
 
--- ---- after joining: the function's entry, and the stretches
+-- ---- after joining and ordering: the function's entry, and the stretches
 
-abbrev st : tie.After-join → tie.Start
-st j = j .before .before .before .before .before .before .before .before
+abbrev start : tie.After-join-in-order → tie.Start
+start o = o .before .before .before .before .before .before .before .before
 
-abbrev B : tie.After-join → List ℕ
-B j = j .join .last .1 .1 .1 .0
+abbrev C : tie.After-join-in-order → List ℕ
+C o = o .join-in-order .last .1 .1 .1 .0
 
-long-B : (j : tie.After-join) → length (B j) ≡ 64
-long-B j = j .join .kept .1 .1 .1 .0
+abbrev m : tie.After-join-in-order → ℕ
+m o = o .join-in-order .result
 
--- ---- after ordering
+in-C : (o : tie.After-join-in-order) → m o ≤ length (C o)
+in-C o = omega (arith, o .join-in-order .kept .1 .1 .1 .0, o .join-in-order .ensures .0, start o .pre .1 .few)
 
-abbrev at : tie.After-order → tie.After-join
-at o = o .before .before .before
-
-abbrev start : tie.After-order → tie.Start
-start o = st (at o)
-
-abbrev C : tie.After-order → List ℕ
-C o = o .order .last .0
-
-abbrev m : tie.After-order → ℕ
-m o = at o .join .result
-
-in-C : (o : tie.After-order) → m o ≤ length (C o)
-in-C o = omega (arith, o .order .kept .0, long-B (at o), at o .join .ensures .0, start o .pre .1 .few)
-
-bytes : (o : tie.After-order) → Bytes (start o .args .memory .now)
-bytes o = bytes-at (start o .args .memory .now) (λ i. at o .before .before .before .before .before .slice-known .given i .fits)
+bytes : (o : tie.After-join-in-order) → Bytes (start o .args .memory .now)
+bytes o = bytes-at (start o .args .memory .now) (λ i. o .before .before .before .before .before .slice-known .given i .fits)
 
 -- ---- one stretch of doublewords
 
@@ -98,26 +84,18 @@ returns c =
 
 -- ---- any others
 
-slice-aggregate-join : tie.Need-slice-aggregate-join
-slice-aggregate-join c = search needs
+slice-aggregate-join-in-order : tie.Need-slice-aggregate-join-in-order
+slice-aggregate-join-in-order c = search needs
 
-join-requires : tie.Need-join-requires
-join-requires c κs =
+join-in-order-requires : tie.Need-join-in-order-requires
+join-in-order-requires c κs =
     let a = c .before .before .before .before .before .before .before in
-    (ready-sized _ _ _ (a .args .memory .now) _ _ _ (a .pre .0) (a .pre .1), a .pre .1 .few)
-
-slice-aggregate-order : tie.Need-slice-aggregate-order
-slice-aggregate-order c = search needs
-
-order-requires : tie.Need-order-requires
-order-requires c κs =
-    let j = c .before .before in
-    let p = st j .pre in
-    let m = j .join .ensures in (
-      omega (arith, long-B j, m .0, p .1 .few),
-      omega (arith, m .0, p .1 .few),
-      ready-distinct _ _ _ (st j .args .memory .now) _ _ _
-          (p .0) (p .1) _ _ (m .1),
+    let M = a .args .memory .now in
+    let r = a .pre .1 in (
+      ready-sized _ _ _ M _ _ _ (a .pre .0) r,
+      r .few,
+      r .few,
+      ready-distinct _ _ _ M _ _ _ (a .pre .0) r,
     )
 
 slice-aggregate-has-room : tie.Need-slice-aggregate-has-room
@@ -130,10 +108,10 @@ has-room-requires : tie.Need-has-room-requires
 has-room-requires c κs =
     let o = c .before .before in
     let p = start o .pre in
-    let m = at o .join .ensures in (
+    let q = o .join-in-order .ensures in (
       in-C o,
-      omega (arith, m .0, p .1 .few),
-      omega (arith, ready-sum _ _ _ (start o .args .memory .now) _ _ _ (p .0) (p .1) _ _ (m .1) _ (o .order .ensures) (in-C o) (bytes o)),
+      omega (arith, q .0, p .1 .few),
+      omega (arith, ready-sum _ _ _ (start o .args .memory .now) _ _ _ (p .0) (p .1) _ _ (q .1) (in-C o) (bytes o)),
       p .1 .bytes,
     )
 
@@ -141,7 +119,7 @@ returns-2 : tie.Need-returns-2
 returns-2 c =
     let o = c .before .before .before .before in
     λ es R.
-    ready-short _ _ _ (start o .args .memory .now) _ _ _ es R _ _ (at o .join .ensures .1) _ (o .order .ensures) (in-C o) (bytes o) _
+    ready-short _ _ _ (start o .args .memory .now) _ _ _ es R _ _ (o .join-in-order .ensures .1) (in-C o) (bytes o) _
     (sym (c .before .has-room .ensures) ∙ not-true (c .before .has-room .result) (c .if2 .taken))
 
 -- ---- there is room
@@ -149,7 +127,7 @@ returns-2 c =
 abbrev tested : tie.After-write-vector → tie.After-has-room
 tested w = w .before .before .before
 
-abbrev ordered : tie.After-has-room → tie.After-order
+abbrev ordered : tie.After-has-room → tie.After-join-in-order
 ordered h = h .before .before .before
 
 room : (w : tie.After-write-vector)
@@ -177,7 +155,7 @@ compose-requires c κs =
     let l : length (w .write-vector .last .1 .1 .1 .1 .1 .0) ≡ length (start o .args .memory .now) =
     w .write-vector .kept .1 .1 .1 .1 .1 .0 in (
       subst (Ordered (C o) (m o)) (sym l)
-          (ready-ordered _ _ _ (start o .args .memory .now) _ _ _ (p .0) (p .1) _ _ (at o .join .ensures .1) _ (o .order .ensures)
+          (ready-ordered _ _ _ (start o .args .memory .now) _ _ _ (p .0) (p .1) _ _ (o .join-in-order .ensures .1)
           (in-C o) (bytes o)),
       omega (arith, p .1 .top, l),
       room w,
@@ -196,7 +174,7 @@ returns-3 c =
     let o = ordered (tested w) in
     let r = w .write-vector .ensures in
     λ es R.
-    ready-done _ _ _ (start o .args .memory .now) _ _ _ es R _ _ (at o .join .ensures .1) _ (o .order .ensures) (in-C o)
+    ready-done _ _ _ (start o .args .memory .now) _ _ _ es R _ _ (o .join-in-order .ensures .1) (in-C o)
     (bytes o) _ _ _ _ _ _
     (room w) (r .0 .0) (r .0 .1) (r .1) (d .compose .ensures .0) (d .compose .ensures .1)
 
@@ -209,10 +187,8 @@ finish-spec =
     same-length
     same-length-2
     returns
-    slice-aggregate-join
-    join-requires
-    slice-aggregate-order
-    order-requires
+    slice-aggregate-join-in-order
+    join-in-order-requires
     slice-aggregate-has-room
     mul-has-room
     has-room-requires
