@@ -1,5 +1,5 @@
 /*
- * Starshackle: a proved model of Arm's predicated vector stores (SVE scatter ST1B, ST1H, ST1W and ST1D, SME2 strided ST1D,
+ * Starshackle: a proved model of Arm's predicated vector stores (SVE scatter and SME2 strided ST1B, ST1H, ST1W and ST1D,
  * SVE2p1 ST1Q).
  *
  * Link with libstarshackle.a, which `rt staticlib starshackle` makes. It needs nothing but the C library.
@@ -34,8 +34,9 @@ enum starshackle_verdict {
     STARSHACKLE_LENGTH = 1,    /* vb is none of 16, 32, 64, 128, 256 */
     STARSHACKLE_REGISTERS = 2, /* z_len isn't 32 * vb, or p_len isn't 2 * vb */
     STARSHACKLE_WINDOW = 3,    /* the window is longer than 65,536 bytes, or passes 2^64; it may end there */
-    STARSHACKLE_UNDEFINED = 4, /* the word is of no class, or its flag is off: SVE for 1..7 and 13..24, SME2 for 8..11, SVE2P1 for 12 */
-    STARSHACKLE_ILLEGAL = 5,   /* 1..7 and 12..24: streaming on and FA64 off; 8..11: streaming off */
+    STARSHACKLE_UNDEFINED = 4, /* the word is of no class, or its flag is off: SVE for 1..7 and 13..24, SME2 for 8..11 and 25..36,
+                                  SVE2P1 for 12 */
+    STARSHACKLE_ILLEGAL = 5,   /* 1..7 and 12..24: streaming on and FA64 off; 8..11 and 25..36: streaming off */
     STARSHACKLE_STACK = 6,     /* SP is the base, is checked, and isn't a multiple of 16 */
     STARSHACKLE_FAULT = 7,     /* an active element has a byte outside the window */
     STARSHACKLE_NO_ROOM = 8,   /* the patch buffer is shorter than the patch */
@@ -80,7 +81,19 @@ enum starshackle_class {
     STARSHACKLE_CLASS_ST1W_64_SCALED = 21,
     STARSHACKLE_CLASS_ST1W_64_UNSCALED = 22,
     STARSHACKLE_CLASS_ST1W_32_SCALED = 23,
-    STARSHACKLE_CLASS_ST1W_32_UNSCALED = 24
+    STARSHACKLE_CLASS_ST1W_32_UNSCALED = 24,
+    STARSHACKLE_CLASS_ST1B_STRIDED_TWO_SCALAR = 25,
+    STARSHACKLE_CLASS_ST1B_STRIDED_FOUR_SCALAR = 26,
+    STARSHACKLE_CLASS_ST1B_STRIDED_TWO_IMMEDIATE = 27,
+    STARSHACKLE_CLASS_ST1B_STRIDED_FOUR_IMMEDIATE = 28,
+    STARSHACKLE_CLASS_ST1H_STRIDED_TWO_SCALAR = 29,
+    STARSHACKLE_CLASS_ST1H_STRIDED_FOUR_SCALAR = 30,
+    STARSHACKLE_CLASS_ST1H_STRIDED_TWO_IMMEDIATE = 31,
+    STARSHACKLE_CLASS_ST1H_STRIDED_FOUR_IMMEDIATE = 32,
+    STARSHACKLE_CLASS_ST1W_STRIDED_TWO_SCALAR = 33,
+    STARSHACKLE_CLASS_ST1W_STRIDED_FOUR_SCALAR = 34,
+    STARSHACKLE_CLASS_ST1W_STRIDED_TWO_IMMEDIATE = 35,
+    STARSHACKLE_CLASS_ST1W_STRIDED_FOUR_IMMEDIATE = 36
 };
 
 /* How the 32-bit offsets of classes 1, 2, 5, 6, 13, 14, 17..20, 23 and 24 become 64-bit ones. */
@@ -93,19 +106,20 @@ enum starshackle_extension {
 /* Entries of `fields`: a store as its word names it. An entry for a field that the class lacks is 0. */
 enum starshackle_field {
     STARSHACKLE_FIELD_CLASS = 0,
-    STARSHACKLE_FIELD_INDEX = 1,     /* Zm in classes 1..7 and 13..24; Rm in 8, 9 and 12 */
+    STARSHACKLE_FIELD_INDEX = 1,     /* Zm in classes 1..7 and 13..24; Rm in 8, 9, 12, 25, 26, 29, 30, 33 and 34 */
     STARSHACKLE_FIELD_EXTENSION = 2,
-    STARSHACKLE_FIELD_PREDICATE = 3, /* Pg; in classes 8..11 the counter's register less 8 */
+    STARSHACKLE_FIELD_PREDICATE = 3, /* Pg; in classes 8..11 and 25..36 the counter's register less 8 */
     STARSHACKLE_FIELD_BASE = 4,      /* Rn, 31 for SP; in class 12 Zn */
-    STARSHACKLE_FIELD_REGISTER = 5,  /* Zt; in classes 8..11 the first of the registers */
-    STARSHACKLE_FIELD_MULTIPLE = 6,  /* classes 10 and 11: the immediate in vectors, in two's complement: (int64_t)fields[6] */
+    STARSHACKLE_FIELD_REGISTER = 5,  /* Zt; in classes 8..11 and 25..36 the first of the registers */
+    STARSHACKLE_FIELD_MULTIPLE = 6,  /* classes 10, 11, 27, 28, 31, 32, 35 and 36: the immediate in vectors, in two's complement:
+                                        (int64_t)fields[6] */
     STARSHACKLE_FIELD_ZERO = 7       /* always 0 */
 };
 
 /* Lengths in bytes. */
 enum starshackle_length {
-    STARSHACKLE_LARGEST_STORE_PATCH = 1040, /* no store's patch is longer: a buffer for starshackle_store with room for all */
-    STARSHACKLE_LARGEST_PATCH = 1796,       /* no patch is longer */
+    STARSHACKLE_LARGEST_STORE_PATCH = 6660, /* no store's patch is longer: a buffer for starshackle_store with room for all */
+    STARSHACKLE_LARGEST_PATCH = 7172,       /* no patch is longer */
     STARSHACKLE_LARGEST_WINDOW = 65536      /* no window is longer */
 };
 
@@ -140,7 +154,7 @@ uint64_t starshackle_encode(const uint64_t fields[8], uint64_t answer[5]);
 /*
  * A patch is a string of bytes that says which bytes are written where. Each run: 50 52 (hexadecimal), the start address in 8 bytes,
  * the length in 2, then that many bytes. Behind the last run: 50 45, and the number of runs in 2 bytes. Numbers are little-endian.
- * There are 0 to 64 runs; lengths are at least 1 and together at most 1,024; starts ascend, with at least one address between a run
+ * There are 0 to 512 runs; lengths are at least 1 and together at most 1,024; starts ascend, with at least one address between a run
  * and the next; no run passes 2^64; nothing follows.
  */
 
@@ -154,15 +168,16 @@ uint64_t starshackle_encode(const uint64_t fields[8], uint64_t answer[5]);
  *   sp      SP: register 31 as a base. Register 31 as Rm is zero.
  *   z       the Z registers: register r from byte r * vb on, little-endian
  *   z_len   how many bytes they are: 32 * vb, or the verdict is 2
- *   p       the P registers: register g from byte g * vb / 8 on, bit i of it bit i % 8 of its byte i / 8. In classes 8..11 the low 16
- *           bits of register 8 + Pc are a counter; see below
+ *   p       the P registers: register g from byte g * vb / 8 on, bit i of it bit i % 8 of its byte i / 8. In classes 8..11 and
+ *           25..36 the low 16 bits of register 8 + Pc are a counter; see below
  *   p_len   how many bytes they are: 2 * vb, or the verdict is 2
  *   base    the window's address: that of memory[0]
  *   memory  the window's bytes
  *   memory_len  how many bytes the window has
  *   word    the instruction word
  *   patch   where the patch goes
- *   patch_len  how many bytes there is room for; STARSHACKLE_LARGEST_STORE_PATCH is always enough
+ *   patch_len  how many bytes there is room for; STARSHACKLE_LARGEST_STORE_PATCH is always enough. 1,040 bytes are for classes 1..24;
+ *           a store of classes 25..36 that leaves gaps may get NO_ROOM with them
  *   answer  for the answer
  *
  * DONE     answer[2] active elements, answer[3] bytes moved (an address that two elements write counts twice), answer[4] the patch's
@@ -180,9 +195,11 @@ uint64_t starshackle_encode(const uint64_t fields[8], uint64_t answer[5]);
  *
  * A counter's element size is 8, 16, 32 or 64 bits, as its lowest set bit is bit 0, 1, 2 or 3; where none of these is set nothing is
  * active, whatever the others are. Its count is the number above that bit, up to bit log2(4 * vb): bit 6 for vb 16, 7 for 32, 8 for
- * 64, 9 for 128, 10 for 256. The bits above it up to 14 are ignored. A doubleword of the store, counted through all its registers, is
- * active if it starts in one of the first `count` elements of that size, or, where bit 15 is set, if it doesn't. So 0418h is 0018h for
- * vb 16: doubleword 0 is active and no other.
+ * 64, 9 for 128, 10 for 256. The bits above it up to 14 are ignored. Elements of that size lie one behind the other through all
+ * registers of the store. An element of the store is active if it starts where one of the first `count` of them starts, or, where bit
+ * 15 is set, where another of them starts. So 0418h is 0018h for vb 16: doubleword 0 is active and no other. And a counter of a wider
+ * size than the store's elements leaves gaps: a store of bytes under a size of 16 bits writes every second byte, in a run of its own.
+ * Each is a step then; elements under a counter of their own size or a narrower one are one step and one run.
  *
  * Verdict, answer and patch don't depend on what the window holds, and applying the patch to any content of it leaves what the store
  * leaves there. A caller who wants only the patch lends a scratch window: memory_len bytes of any content. One who wants only the

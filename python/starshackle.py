@@ -54,10 +54,13 @@ __all__ = [
 LENGTHS = (16, 32, 64, 128, 256)
 """The lengths that a vector may have, in bytes."""
 
-LARGEST_STORE_PATCH = 1040
-"""No store's patch is longer: a buffer for `store` with room for all."""
+LARGEST_STORE_PATCH = 6660
+"""No store's patch is longer: a buffer for `store` with room for all.
 
-LARGEST_PATCH = 1796
+With 1,040 bytes, which classes 1 to 24 need at most, a store of classes 25 to 36 that leaves gaps may get NO_ROOM.
+"""
+
+LARGEST_PATCH = 7172
 """No patch is longer."""
 
 LARGEST_WINDOW = 65536
@@ -72,7 +75,7 @@ class Verdict(IntEnum):
     REGISTERS = 2  # z has other than 32 * vb bytes, or p other than 2 * vb
     WINDOW = 3  # the window is longer than LARGEST_WINDOW, or passes 2**64
     UNDEFINED = 4  # the word is of no class, or its flag is off
-    ILLEGAL = 5  # classes 1 to 7 and 12 to 24: streaming on and FA64 off; 8 to 11: streaming off
+    ILLEGAL = 5  # classes 1 to 7 and 12 to 24: streaming on and FA64 off; 8 to 11 and 25 to 36: streaming off
     STACK = 6  # SP is the base, is checked, and isn't a multiple of 16
     FAULT = 7  # an active element has a byte outside the window
     NO_ROOM = 8  # the patch buffer is shorter than the patch
@@ -110,8 +113,10 @@ class Machine:
 
     The low 16 bits of P register 8 + Pc are the counter of a strided store. Its element size is 8, 16, 32 or 64 bits, as its lowest set
     bit is bit 0, 1, 2 or 3; where none of these is set nothing is active. Its count is the number above that bit, up to bit
-    log2(4 * vb), which is bit 6 for 16 bytes and bit 10 for 256; the bits above it up to 14 are ignored. A doubleword of the store is
-    active if it starts in one of the first `count` elements of that size, or, where bit 15 is set, if it doesn't.
+    log2(4 * vb), which is bit 6 for 16 bytes and bit 10 for 256; the bits above it up to 14 are ignored. Elements of that size lie one
+    behind the other through all registers of the store. An element of the store is active if it starts where one of the first `count`
+    of them starts, or, where bit 15 is set, where another of them starts. So a counter of a wider size than the store's elements leaves
+    gaps.
 
     >>> machine = Machine(vb=32)
     >>> len(machine.x), len(machine.z), len(machine.p)
@@ -136,8 +141,9 @@ class Machine:
 class Store:
     """A store as its word names it. A field that the class lacks is 0.
 
-    index is Zm, or Rm in classes 8, 9 and 12; predicate is Pg, or the counter's register less 8 in classes 8 to 11; base is Rn, or
-    Zn in class 12; register is Zt, or the first of the registers in classes 8 to 11; multiple is the immediate, in vectors.
+    index is Zm, or Rm in class 12 and the strided classes, 8 to 11 and 25 to 36; predicate is Pg, or the counter's register less 8 in
+    these; base is Rn, or Zn in class 12; register is Zt, or the first of the registers in the strided classes; multiple is the
+    immediate, in vectors.
     """
 
     class_: int

@@ -209,10 +209,13 @@ static uint64_t encode_with(size_t entry, uint64_t value)
 
 static void words(void)
 {
-    /* beside the classes: scaled bytes, doublewords in elements of 32 bits, 64-bit offsets with bits 22..21 as 10 and 11 */
-    static const uint32_t beside[17] = {0xE4208000, 0xE420C000, 0xE420A000, 0xE4608000, 0xE460C000, 0xE5C08000,
+    /* beside the classes: scaled bytes, doublewords in elements of 32 bits, 64-bit offsets with bits 22..21 as 10 and 11; and of narrow
+       strided stores, bit 3 or 2 and bit 20 set, and loads */
+    static const uint32_t beside[25] = {0xE4208000, 0xE420C000, 0xE420A000, 0xE4608000, 0xE460C000, 0xE5C08000,
                                         0xE5C0C000, 0xE5E08000, 0xE5E0C000, 0xE440A000, 0xE460A000, 0xE4C0A000,
-                                        0xE4E0A000, 0xE540A000, 0xE560A000, 0xE5C0A000, 0xE5E0A000};
+                                        0xE4E0A000, 0xE540A000, 0xE560A000, 0xE5C0A000, 0xE5E0A000, 0xA1200008,
+                                        0xA1602008, 0xA1208004, 0xA160A008, 0xA120C00C, 0xA1700000, 0xA1000000,
+                                        0xA140A000};
     size_t i;
     WORD_IS(0xE5A08000, STARSHACKLE_CLASS_ST1D_32_UNPACKED_SCALED, 0, STARSHACKLE_EXTENSION_UXTW, 0, 0, 0, 0);
     WORD_IS(0xE5A0C000, STARSHACKLE_CLASS_ST1D_32_UNPACKED_SCALED, 0, STARSHACKLE_EXTENSION_SXTW, 0, 0, 0, 0);
@@ -239,6 +242,18 @@ static void words(void)
     WORD_IS(0xE500A000, STARSHACKLE_CLASS_ST1W_64_UNSCALED, 0, 0, 0, 0, 0, 0);
     WORD_IS(0xE5608000, STARSHACKLE_CLASS_ST1W_32_SCALED, 0, 1, 0, 0, 0, 0);
     WORD_IS(0xE5408000, STARSHACKLE_CLASS_ST1W_32_UNSCALED, 0, 1, 0, 0, 0, 0);
+    WORD_IS(0xA1200000, STARSHACKLE_CLASS_ST1B_STRIDED_TWO_SCALAR, 0, 0, 0, 0, 0, 0);
+    WORD_IS(0xA1208000, STARSHACKLE_CLASS_ST1B_STRIDED_FOUR_SCALAR, 0, 0, 0, 0, 0, 0);
+    WORD_IS(0xA1600000, STARSHACKLE_CLASS_ST1B_STRIDED_TWO_IMMEDIATE, 0, 0, 0, 0, 0, 0);
+    WORD_IS(0xA1608000, STARSHACKLE_CLASS_ST1B_STRIDED_FOUR_IMMEDIATE, 0, 0, 0, 0, 0, 0);
+    WORD_IS(0xA1202000, STARSHACKLE_CLASS_ST1H_STRIDED_TWO_SCALAR, 0, 0, 0, 0, 0, 0);
+    WORD_IS(0xA120A000, STARSHACKLE_CLASS_ST1H_STRIDED_FOUR_SCALAR, 0, 0, 0, 0, 0, 0);
+    WORD_IS(0xA1602000, STARSHACKLE_CLASS_ST1H_STRIDED_TWO_IMMEDIATE, 0, 0, 0, 0, 0, 0);
+    WORD_IS(0xA160A000, STARSHACKLE_CLASS_ST1H_STRIDED_FOUR_IMMEDIATE, 0, 0, 0, 0, 0, 0);
+    WORD_IS(0xA1204000, STARSHACKLE_CLASS_ST1W_STRIDED_TWO_SCALAR, 0, 0, 0, 0, 0, 0);
+    WORD_IS(0xA120C000, STARSHACKLE_CLASS_ST1W_STRIDED_FOUR_SCALAR, 0, 0, 0, 0, 0, 0);
+    WORD_IS(0xA1604000, STARSHACKLE_CLASS_ST1W_STRIDED_TWO_IMMEDIATE, 0, 0, 0, 0, 0, 0);
+    WORD_IS(0xA160C000, STARSHACKLE_CLASS_ST1W_STRIDED_FOUR_IMMEDIATE, 0, 0, 0, 0, 0, 0);
     /* every field at its largest, and all of them different where they can be */
     WORD_IS(0xE5BFDFFF, 1, 31, 2, 7, 31, 31, 0);
     WORD_IS(0xE44380C5, 6, 3, 1, 0, 6, 5, 0);
@@ -248,6 +263,10 @@ static void words(void)
     WORD_IS(0xE4FFDFFF, 17, 31, 2, 7, 31, 31, 0);
     WORD_IS(0xE49ABC85, 16, 26, 0, 7, 4, 5, 0);
     WORD_IS(0xE54380C5, 24, 3, 1, 0, 6, 5, 0);
+    WORD_IS(0xA12A0C97, 25, 10, 0, 3, 4, 23, 0);
+    WORD_IS(0xA13F9FF3, 26, 31, 0, 7, 31, 19, 0);
+    WORD_IS(0xA1673C37, 31, 0, 0, 7, 1, 23, 14);
+    WORD_IS(0xA168C000, 36, 0, 0, 0, 0, 0, -32);
     /* document 01's cases */
     WORD_IS(0xA16F6000, 10, 0, 0, 0, 0, 0, -2);
     WORD_IS(0xA168E000, 11, 0, 0, 0, 0, 0, -32);
@@ -255,14 +274,16 @@ static void words(void)
     WORD_IS(0xA1206010, 8, 0, 0, 0, 0, 16, 0);
     undefined(__LINE__, 0xA120E004);
     undefined(__LINE__, 0xA1206008);
-    for (i = 0; i < 17; i++)
+    for (i = 0; i < 25; i++)
         undefined(__LINE__, beside[i]);
     undefined(__LINE__, 0);
     undefined(__LINE__, 0xFFFFFFFF);
 
     ANSWERS(encode_with(0, 10), STARSHACKLE_DONE, 0, 0, 0, 0, 0xA16F6000);
     REFUSED(encode_with(0, 0), STARSHACKLE_FIELDS);
-    REFUSED(encode_with(0, 25), STARSHACKLE_FIELDS);
+    REFUSED(encode_with(0, 37), STARSHACKLE_FIELDS);
+    ANSWERS(encode_with(0, 27), STARSHACKLE_DONE, 0, 0, 0, 0, 0xA16F0000);
+    REFUSED(encode_with(0, 28), STARSHACKLE_FIELDS); /* a multiple of four registers is one of 4 */
     REFUSED(encode_with(0, UINT64_C(10) + 256), STARSHACKLE_FIELDS);
     REFUSED(encode_with(0, (UINT64_C(1) << 32) + 10), STARSHACKLE_FIELDS);
     REFUSED(encode_with(1, 1), STARSHACKLE_FIELDS); /* a field that the class lacks */
@@ -571,25 +592,36 @@ static void narrow(void)
     CHECK(untouched());
 }
 
-/* No patch of a store is longer than STARSHACKLE_LARGEST_STORE_PATCH: four registers at VB 256 reach it. */
-static void largest(void)
+/* Four registers of VB 256 at address 0, with data of their own. */
+static void four_registers(unsigned counter)
 {
-    const uint32_t word = 0xA120E000;
-    const size_t room = STARSHACKLE_LARGEST_STORE_PATCH;
-    static const uint8_t head[12] = {0x50, 0x52, 0, 0, 0, 0, 0, 0, 0, 0, 0, 4};
     size_t i;
     machine(256, STARSHACKLE_FLAG_SME2 | STARSHACKLE_FLAG_STREAMING, 0, STARSHACKLE_LARGEST_WINDOW);
-    set_counter(8, 0x8008); /* all */
+    set_counter(8, counter);
     for (i = 0; i < sizeof m.z; i++)
         m.z[i] = (uint8_t)(i / 8);
+}
+
+/* Where byte `i` of four registers stands. */
+static const uint8_t *of_four(size_t i)
+{
+    return m.z + i / 256 * 4 * 256 + i % 256;
+}
+
+/* All of four registers is one run, of which classes 1 to 24 have no longer patch. */
+static void longest_run(uint32_t word, unsigned counter, size_t size)
+{
+    const size_t room = 1040;
+    static const uint8_t head[12] = {0x50, 0x52, 0, 0, 0, 0, 0, 0, 0, 0, 0, 4};
+    size_t i;
+    four_registers(counter);
     STORE_REFUSED(store(word, room - 1), STARSHACKLE_NO_ROOM);
     CHECK(untouched());
-    STORES(store(word, room), STARSHACKLE_DONE, 0, 0, 128, 1024, room, 1);
+    STORES(store(word, room), STARSHACKLE_DONE, 0, 0, 1024 / size, 1024, room, 1);
     expect_patch(0, head, sizeof head);
     for (i = 0; i < 1024; i++) {
-        const uint8_t *byte = m.z + i / 256 * 4 * 256 + i % 256;
-        expect_memory(i, *byte);
-        expect_patch(12 + i, byte, 1);
+        expect_memory(i, *of_four(i));
+        expect_patch(12 + i, of_four(i), 1);
     }
     expect_patch(12 + 1024, ONE_RUN, sizeof ONE_RUN);
     CHECK(untouched());
@@ -598,6 +630,93 @@ static void largest(void)
     ANSWERS(apply(patch, room), STARSHACKLE_DONE, 0, 0, 1, 1024, 0);
     memcpy(memory_before + FENCE, patch + 12, 1024);
     CHECK(untouched());
+}
+
+/* Elements of `size` bytes under a counter of a wider size, `unit` bytes: one in each `unit` bytes, a run of its own. */
+static void gaps(uint32_t word, size_t size, size_t unit)
+{
+    const size_t count = 1024 / unit, room = 4 + count * (12 + size);
+    uint8_t head[12] = {0x50, 0x52}, trailer[4] = {0x50, 0x45};
+    size_t i, k;
+    four_registers(0x8000u | (unsigned)unit); /* all */
+    STORE_REFUSED(store(word, room - 1), STARSHACKLE_NO_ROOM);
+    CHECK(untouched());
+    STORES(store(word, room), STARSHACKLE_DONE, 0, 0, count, count * size, room, count);
+    head[10] = (uint8_t)size;
+    for (i = 0; i < count; i++) {
+        head[2] = (uint8_t)(i * unit), head[3] = (uint8_t)(i * unit / 256);
+        expect_patch(i * (12 + size), head, sizeof head);
+        for (k = 0; k < size; k++) {
+            expect_memory(i * unit + k, *of_four(i * unit + k));
+            expect_patch(i * (12 + size) + 12 + k, of_four(i * unit + k), 1);
+        }
+    }
+    trailer[2] = (uint8_t)count, trailer[3] = (uint8_t)(count / 256);
+    expect_patch(room - 4, trailer, sizeof trailer);
+    CHECK(untouched());
+    for (i = 0; i < 8; i++)
+        ANSWERS(element(word, i), STARSHACKLE_DONE, i * size % unit == 0, i * size, i * size, size, 1024 / size);
+    ANSWERS(starshackle_judge(patch, room, answer), STARSHACKLE_DONE, 0, 0, count, count * size, 0);
+    memcpy(memory_area, memory_before, sizeof memory_area);
+    ANSWERS(apply(patch, room), STARSHACKLE_DONE, 0, 0, count, count * size, 0);
+    CHECK(untouched());
+}
+
+/* No patch of a store is longer than STARSHACKLE_LARGEST_STORE_PATCH: bytes of four registers at VB 256 reach it under a counter of
+   halfwords. 1,040 bytes, which were enough before there were narrow strided stores, are too few. */
+static void largest(void)
+{
+    const uint32_t bytes = 0xA1208000, halfwords = 0xA120A000, words = 0xA120C000, doublewords = 0xA120E000;
+    CHECK(STARSHACKLE_LARGEST_STORE_PATCH == 6660);
+    CHECK(STARSHACKLE_LARGEST_PATCH == 7172);
+    longest_run(doublewords, 0x8008, 8);
+    longest_run(doublewords, 0x8001, 8);
+    longest_run(bytes, 0x8001, 1);
+    longest_run(halfwords, 0x8001, 2);
+    longest_run(halfwords, 0x8002, 2);
+    longest_run(words, 0x8004, 4);
+    gaps(bytes, 1, 2);
+    gaps(bytes, 1, 4);
+    gaps(bytes, 1, 8);
+    gaps(halfwords, 2, 4);
+    gaps(halfwords, 2, 8);
+    gaps(words, 4, 8);
+    four_registers(0x8002);
+    STORE_REFUSED(store(bytes, 1040), STARSHACKLE_NO_ROOM);
+    STORE_REFUSED(store(bytes, STARSHACKLE_LARGEST_STORE_PATCH - 1), STARSHACKLE_NO_ROOM);
+    CHECK(untouched());
+    STORES(store(bytes, STARSHACKLE_LARGEST_STORE_PATCH), STARSHACKLE_DONE, 0, 0, 512, 512, STARSHACKLE_LARGEST_STORE_PATCH, 512);
+    /* the last active byte is 1022, and no other is outside */
+    fill();
+    m.length = 1022;
+    STORES(store(bytes, MOST_PATCH), STARSHACKLE_FAULT, 1022, 1022, 0, 0, 0, 0);
+    CHECK(untouched());
+    m.length = 1023;
+    STORES(store(bytes, MOST_PATCH), STARSHACKLE_DONE, 0, 0, 512, 512, STARSHACKLE_LARGEST_STORE_PATCH, 512);
+}
+
+/* "The scalar index and the step from element to element are the element's bytes .. the immediate displacement is unchanged" */
+static void narrow_strided(void)
+{
+    size_t shift, size, k;
+    for (shift = 0; shift < 4; shift++) {
+        const uint32_t scalar = 0xA1210000 | (uint32_t)shift << 13, immediate = 0xA16F0000 | (uint32_t)shift << 13;
+        size = (size_t)1 << shift;
+        machine(16, STARSHACKLE_FLAG_SME2 | STARSHACKLE_FLAG_STREAMING, 0x1000, 64);
+        m.x[0] = 0x1000;
+        m.x[1] = 3;
+        for (k = 0; k < 4; k++) {
+            ANSWERS(element(scalar, k), STARSHACKLE_DONE, 0, 0x1000 + (3 + k) * size, k * size / 16 * 128 + k * size % 16, size,
+                    32 / size);
+            ANSWERS(element(immediate, k), STARSHACKLE_DONE, 0, 0x0FE0 + k * size, k * size / 16 * 128 + k * size % 16, size, 32 / size);
+            ANSWERS(element(immediate | 0x8000, k), STARSHACKLE_DONE, 0, 0x0FC0 + k * size, k * size / 16 * 64 + k * size % 16, size,
+                    64 / size);
+        }
+        m.flags = STARSHACKLE_FLAG_SVE | STARSHACKLE_FLAG_SVE2P1 | STARSHACKLE_FLAG_STREAMING | STARSHACKLE_FLAG_FA64;
+        STORE_REFUSED(store(scalar, MOST_PATCH), STARSHACKLE_UNDEFINED);
+        m.flags = STARSHACKLE_FLAG_SME2 | STARSHACKLE_FLAG_FA64;
+        STORE_REFUSED(store(scalar, MOST_PATCH), STARSHACKLE_ILLEGAL);
+    }
 }
 
 /* ---- steps */
@@ -796,12 +915,15 @@ static void refusals(void)
 
 /* ---- the byte that a fault names */
 
-static const uint32_t ST1B = 0xE402A001;    /* st1b { z1.d }, p0, [x0, z2.d] */
-static const uint32_t ST1H = 0xE4C28001;    /* st1h { z1.s }, p0, [x0, z2.s, uxtw] */
-static const uint32_t ST1W = 0xE502A001;    /* st1w { z1.d }, p0, [x0, z2.d] */
-static const uint32_t ST1D = 0xE582A001;    /* st1d { z1.d }, p0, [x0, z2.d] */
-static const uint32_t STRIDED = 0xA1606000; /* st1d { z0.d, z8.d }, pn8, [x0] */
-static const uint32_t ST1Q = 0xE43F2041;    /* st1q { z1.q }, p0, [z2.d] */
+static const uint32_t ST1B = 0xE402A001;      /* st1b { z1.d }, p0, [x0, z2.d] */
+static const uint32_t ST1H = 0xE4C28001;      /* st1h { z1.s }, p0, [x0, z2.s, uxtw] */
+static const uint32_t ST1W = 0xE502A001;      /* st1w { z1.d }, p0, [x0, z2.d] */
+static const uint32_t ST1D = 0xE582A001;      /* st1d { z1.d }, p0, [x0, z2.d] */
+static const uint32_t STRIDED = 0xA1606000;   /* st1d { z0.d, z8.d }, pn8, [x0] */
+static const uint32_t STRIDED_B = 0xA1608000; /* st1b { z0.b, z4.b, z8.b, z12.b }, pn8, [x0] */
+static const uint32_t STRIDED_H = 0xA1602000; /* st1h { z0.h, z8.h }, pn8, [x0] */
+static const uint32_t STRIDED_W = 0xA160C000; /* st1w { z0.s, z4.s, z8.s, z12.s }, pn8, [x0] */
+static const uint32_t ST1Q = 0xE43F2041;      /* st1q { z1.q }, p0, [z2.d] */
 
 /* Element 0 alone is active and lies at `first`, over a window of `length` bytes at `base`. It keeps its first address. */
 static void place(int line, uint32_t word, uint64_t first, uint64_t base, size_t length)
@@ -852,8 +974,8 @@ static void every_place(uint32_t word, uint64_t size)
 
 static void faults(void)
 {
-    const uint32_t words[6] = {ST1B, ST1H, ST1W, ST1D, STRIDED, ST1Q};
-    static const uint64_t sizes[6] = {1, 2, 4, 8, 8, 16};
+    const uint32_t words[9] = {ST1B, ST1H, ST1W, ST1D, STRIDED, STRIDED_B, STRIDED_H, STRIDED_W, ST1Q};
+    static const uint64_t sizes[9] = {1, 2, 4, 8, 8, 1, 2, 4, 16};
     const uint64_t top = UINT64_C(0xFFFFFFFFFFFFFFF0);
     uint64_t k;
     size_t i;
@@ -861,7 +983,7 @@ static void faults(void)
     /* document 02 (ii): a doubleword at FFFFFFFFFFFFFFFCh over a 16-byte window ending at 2^64 */
     FAULT_AT(ST1D, UINT64_C(0xFFFFFFFFFFFFFFFC), top, 16, 0);
     FAULT_AT(STRIDED, UINT64_C(0xFFFFFFFFFFFFFFFC), top, 16, 0);
-    for (i = 0; i < 6; i++) {
+    for (i = 0; i < 9; i++) {
         FAULT_AT(words[i], 0x1000 - sizes[i], 0x1000, 64, 0x1000 - sizes[i]); /* below the window */
         FAULT_AT(words[i], 0x1040, 0x1000, 64, 0x1040);                       /* behind it */
         FAULT_AT(words[i], 64, 0, 64, 64);
@@ -901,6 +1023,23 @@ static void bad_patch(int line, const uint8_t *bytes, size_t length, uint64_t ru
 
 #define BAD_PATCH(bytes, length, runs, offset) bad_patch(__LINE__, bytes, length, runs, offset)
 
+/* Makes a patch of so many runs of so many bytes at every 4th address from 1000h on, and tells its length. */
+static size_t runs_of(size_t runs, size_t bytes)
+{
+    size_t i, k;
+    uint8_t *at = patch;
+    for (i = 0; i < runs; i++) {
+        const size_t start = 0x1000 + 4 * i;
+        memset(at, 0, 12);
+        at[0] = 0x50, at[1] = 0x52, at[2] = (uint8_t)start, at[3] = (uint8_t)(start >> 8), at[10] = (uint8_t)bytes;
+        for (k = 0; k < bytes; k++)
+            at[12 + k] = (uint8_t)(i + 3 * k + 1);
+        at += 12 + bytes;
+    }
+    at[0] = 0x50, at[1] = 0x45, at[2] = (uint8_t)runs, at[3] = (uint8_t)(runs >> 8);
+    return (size_t)(at + 4 - patch);
+}
+
 static void patches(void)
 {
     static const uint8_t EMPTY[4] = {0x50, 0x45, 0, 0};
@@ -939,23 +1078,35 @@ static void patches(void)
     expect_memory(0, 0x77);
     CHECK(untouched());
 
-    /* the largest: 64 runs of 16 bytes, at every 32nd address from 1000h on */
-    machine(16, 0, 0x1000, 64 * 32);
-    memset(patch, 0, MOST_PATCH);
-    for (i = 0; i < 64; i++) {
-        uint8_t *run_at = patch + 28 * i;
-        size_t start = 0x1000 + 32 * i, k;
-        run_at[0] = 0x50, run_at[1] = 0x52, run_at[2] = (uint8_t)start, run_at[3] = (uint8_t)(start >> 8), run_at[10] = 16;
-        for (k = 0; k < 16; k++) {
-            run_at[12 + k] = (uint8_t)(i + 3 * k);
-            expect_memory(32 * i + k, (uint8_t)(i + 3 * k));
-        }
+    /* the largest: 512 runs of 2 bytes, at every 4th address from 1000h on */
+    machine(16, 0, 0x1000, 512 * 4);
+    length = runs_of(512, 2);
+    CHECK(length == MOST_PATCH);
+    for (i = 0; i < 512; i++) {
+        expect_memory(4 * i, (uint8_t)(i + 1));
+        expect_memory(4 * i + 1, (uint8_t)(i + 4));
     }
-    patch[28 * 64] = 0x50, patch[28 * 64 + 1] = 0x45, patch[28 * 64 + 2] = 64;
     expect_patch(0, patch, MOST_PATCH);
-    ANSWERS(starshackle_judge(patch, MOST_PATCH, answer), STARSHACKLE_DONE, 0, 0, 64, 1024, 0);
-    ANSWERS(apply(patch, MOST_PATCH), STARSHACKLE_DONE, 0, 0, 64, 1024, 0);
+    ANSWERS(starshackle_judge(patch, MOST_PATCH, answer), STARSHACKLE_DONE, 0, 0, 512, 1024, 0);
+    ANSWERS(apply(patch, MOST_PATCH), STARSHACKLE_DONE, 0, 0, 512, 1024, 0);
     CHECK(untouched());
+
+    /* 64, 65 and 512 runs are allowed, 513 aren't; the number of runs is in two bytes */
+    for (i = 0; i < 4; i++) {
+        static const size_t counts[4] = {64, 65, 511, 512};
+        machine(16, 0, 0x1000, 512 * 4);
+        length = runs_of(counts[i], 1);
+        ANSWERS(starshackle_judge(patch, length, answer), STARSHACKLE_DONE, 0, 0, counts[i], counts[i], 0);
+        ANSWERS(apply(patch, length), STARSHACKLE_DONE, 0, 0, counts[i], counts[i], 0);
+    }
+    machine(16, 0, 0x1000, 513 * 4);
+    length = runs_of(513, 1);
+    expect_patch(0, patch, length);
+    BAD_PATCH(patch, length, 512, 512 * 13);
+    length = runs_of(512, 1);
+    patch[length - 1] = 0;
+    expect_patch(0, patch, MOST_PATCH);
+    BAD_PATCH(patch, length, 512, 512 * 13);
 }
 
 /* ---- null pointers with length 0 */
@@ -1013,6 +1164,7 @@ int main(void)
     counters();
     quadword();
     narrow();
+    narrow_strided();
     largest();
     steps();
     refusals();

@@ -18,10 +18,16 @@ QUADWORD = 0xE4232041  # st1q { z1.q }, p0, [z2.d, x3]
 EXAMPLE = bytes.fromhex("5052 0010000000000000 0200 a1a3 5052 0510000000000000 0100 a4 5045 0200")
 BASES = [0xE5A08000, 0xE5808000, 0xE5A0A000, 0xE580A000, 0xE4008000, 0xE4408000, 0xE400A000, 0xA1206000, 0xA120E000, 0xA1606000,
          0xA160E000, 0xE4202000, 0xE4A08000, 0xE4808000, 0xE4A0A000, 0xE480A000, 0xE4E08000, 0xE4C08000, 0xE5208000, 0xE5008000,
-         0xE520A000, 0xE500A000, 0xE5608000, 0xE5408000]
-# scaled bytes, doublewords in elements of 32 bits, and 64-bit offsets with bits 22..21 as 10 and 11
+         0xE520A000, 0xE500A000, 0xE5608000, 0xE5408000, 0xA1200000, 0xA1208000, 0xA1600000, 0xA1608000, 0xA1202000, 0xA120A000,
+         0xA1602000, 0xA160A000, 0xA1204000, 0xA120C000, 0xA1604000, 0xA160C000]
+# strided stores, by class: the registers, and an element's bytes
+STRIDED_CLASSES = {first + k: (2 + k % 2 * 2, size) for first, size in [(8, 8), (25, 1), (29, 2), (33, 4)] for k in range(4)}
+SCALAR = {8, 9, 25, 26, 29, 30, 33, 34}
+# scaled bytes, doublewords in elements of 32 bits, and 64-bit offsets with bits 22..21 as 10 and 11; of narrow strided stores, bit 3 or
+# 2 and bit 20 set, and loads
 BESIDE = [0xE4208000, 0xE420C000, 0xE420A000, 0xE4608000, 0xE460C000, 0xE5C08000, 0xE5C0C000, 0xE5E08000, 0xE5E0C000, 0xE440A000,
-          0xE460A000, 0xE4C0A000, 0xE4E0A000, 0xE540A000, 0xE560A000, 0xE5C0A000, 0xE5E0A000]
+          0xE460A000, 0xE4C0A000, 0xE4E0A000, 0xE540A000, 0xE560A000, 0xE5C0A000, 0xE5E0A000, 0xA1200008, 0xA1602008, 0xA1208004,
+          0xA160A008, 0xA120C00C, 0xA1700000, 0xA1000000, 0xA140A000]
 
 
 def scatter(offsets=(0, 1, 1, 5), data=(0xA1, 0xA2, 0xA3, 0xA4)):
@@ -47,6 +53,9 @@ class Words(unittest.TestCase):
             0xE49ABC85: Store(16, 26, 0, 7, 4, 5),
             0xE4E1C000: Store(17, 1, Extension.SXTW),
             0xE54380C5: Store(24, 3, Extension.UXTW, 0, 6, 5),
+            0xA13F9FF3: Store(26, 31, 0, 7, 31, 19),
+            0xA1673C37: Store(31, 0, 0, 7, 1, 23, 14),
+            0xA168C000: Store(36, multiple=-32),
         }
         for word, store in cases.items():
             self.assertEqual(decode(word), Decoded(Verdict.DONE, store))
@@ -62,7 +71,8 @@ class Words(unittest.TestCase):
             self.assertEqual(decode(word), Decoded(Verdict.UNDEFINED, None))
 
     def test_refused_fields(self):
-        stores = [Store(0), Store(25), Store(13), Store(16, extension=1), Store(2**32 + 3), Store(2**64 - 1), Store(3, index=32), Store(3, index=2**32),
+        stores = [Store(0), Store(37), Store(13), Store(16, extension=1), Store(2**32 + 3), Store(2**64 - 1), Store(3, index=32),
+                  Store(3, index=2**32), Store(25, multiple=2), Store(26, register=4), Store(27, index=1), Store(36, multiple=2),
                   Store(3, extension=1), Store(1), Store(1, extension=3), Store(10, index=1), Store(10, register=8),
                   Store(10, multiple=1), Store(10, multiple=16), Store(10, multiple=-2**63), Store(3, multiple=1)]
         for store in stores:
@@ -162,6 +172,68 @@ class Narrow(unittest.TestCase):
         self.assertEqual(memory.hex(), "77" * 8 + "33" * 4 + "77" * 4 + "11" * 4 + "22" * 4 + "77" * 4 + "44" * 4)
 
 
+class NarrowStrided(unittest.TestCase):
+    """Strided bytes, halfwords and words, and patches of up to 512 runs."""
+
+    def machine(self, vb, counter):
+        machine = Machine(vb=vb, flags=Flags.SME2 | Flags.STREAMING, z=bytes(k % 251 for k in range(32 * vb)))
+        struct.pack_into("<H", machine.p, vb, counter)
+        machine.x[0] = 0x1000
+        return machine
+
+    def registers(self, machine, count):
+        """What the registers from Z0 on hold, one behind the other."""
+        return b"".join(machine.z[r * machine.vb:][:machine.vb] for r in range(0, 16, 16 // count))
+
+    def test_counters(self):
+        """One element in as many bytes as the wider of element and counter has; each a run where that is the counter."""
+        for vb in LENGTHS:
+            for class_, (count, size) in STRIDED_CLASSES.items():
+                word = BASES[class_ - 1] | (31 << 16 if class_ in SCALAR else 0)
+                for unit in [1, 2, 4, 8]:
+                    machine, gap = self.machine(vb, 0x8000 | unit), max(size, unit)
+                    elements, length = count * vb // gap, count * vb
+                    runs = 1 if gap == size else elements
+                    memory, patch = bytearray(b"\x77" * length), bytearray(LARGEST_STORE_PATCH)
+                    stored = store(machine, 0x1000, memory, word, patch)
+                    self.assertEqual(stored, Stored(Verdict.DONE, 0, 0, elements, elements * size, 4 + 12 * runs + elements * size, runs))
+                    held = self.registers(machine, count)
+                    written = bytes(held[k] if k % gap < size else 0x77 for k in range(length))
+                    self.assertEqual(memory, written)
+                    self.assertEqual(judge(bytes(patch[:stored.length])), Judged(Verdict.DONE, 0, 0, runs, elements * size))
+
+    def test_largest(self):
+        """ "A byte store under a halfword counter writes every second byte, so 512 runs can occur." """
+        machine, word = self.machine(256, 0x8002), 0xA1608000
+        memory, patch = bytearray(1024), bytearray(LARGEST_STORE_PATCH)
+        self.assertEqual((LARGEST_STORE_PATCH, LARGEST_PATCH), (6660, 7172))
+        self.assertEqual(store(machine, 0x1000, memory, word, patch), Stored(Verdict.DONE, 0, 0, 512, 512, 6660, 512))
+        self.assertEqual(patch, encoding({0x1000 + k: memory[k] for k in range(0, 1024, 2)}))
+        for room in [0, 1040, 6659]:
+            memory, patch = bytearray(1024), bytearray(room)
+            self.assertEqual(store(machine, 0x1000, memory, word, patch), Stored(Verdict.NO_ROOM, 0, 0, 0, 0, 0, 0))
+            self.assertEqual((memory, patch), (bytes(1024), bytes(room)))
+
+    def test_addresses(self):
+        for class_, (count, size) in STRIDED_CLASSES.items():
+            machine = self.machine(16, 0)
+            machine.x[1] = 3
+            word = BASES[class_ - 1] | (1 << 16 if class_ in SCALAR else 15 << 16)
+            first = 0x1000 + 3 * size if class_ in SCALAR else 0x1000 - count * 16
+            for e in range(count * 16 // size):
+                index = e * size // 16 * (16 // count) * 16 + e * size % 16
+                self.assertEqual(element(machine, word, e), Element(Verdict.DONE, False, first + e * size, index, size, count * 16 // size))
+
+    def test_sizes_of_patches(self):
+        for runs in [64, 65, 256, 511, 512, 513]:
+            string = encoding({2 * k: k % 256 for k in range(runs)})
+            bad = Judged(Verdict.BAD_PATCH, 512, 13 * 512, 0, 0)
+            self.assertEqual(judge(string), bad if runs > 512 else Judged(Verdict.DONE, 0, 0, runs, runs))
+            self.assertEqual(apply(0, bytearray(2048), string).verdict, Verdict.BAD_PATCH if runs > 512 else Verdict.DONE)
+        largest = encoding({3 * (k // 2) + k % 2: k % 256 for k in range(1024)})
+        self.assertEqual((len(largest), judge(largest)), (LARGEST_PATCH, Judged(Verdict.DONE, 0, 0, 512, 1024)))
+
+
 class Steps(unittest.TestCase):
     """How many active elements don't start where the active one before them ends."""
 
@@ -245,16 +317,17 @@ class Refusals(unittest.TestCase):
         every = (1 << 64) - 1
         for word in BESIDE:
             self.check(scatter(), word, Verdict.UNDEFINED)
-        narrow = [(word, Flags.SVE) for word in BASES[12:]]
+        narrow = [(word, Flags.SVE) for word in BASES[12:24]] + [(word, Flags.SME2) for word in BASES[24:]]
         for word, flag in [(SCATTER, Flags.SVE), (STRIDED, Flags.SME2), (QUADWORD, Flags.SVE2P1), *narrow]:
             self.check(Machine(flags=every ^ flag), word, Verdict.UNDEFINED)
         self.assertEqual(element(scatter(), 0xE4208000, 0), Element(Verdict.UNDEFINED, False, 0, 0, 0, 0))
 
     def test_illegal(self):
-        for word in [SCATTER, *BASES[12:]]:
+        for word in [SCATTER, *BASES[12:24]]:
             self.check(Machine(flags=Flags.SVE | Flags.STREAMING), word, Verdict.ILLEGAL)
         self.check(Machine(flags=Flags.SVE2P1 | Flags.STREAMING), QUADWORD, Verdict.ILLEGAL)
-        self.check(Machine(flags=Flags.SME2 | Flags.FA64), STRIDED, Verdict.ILLEGAL)
+        for word in [STRIDED, *BASES[24:]]:
+            self.check(Machine(flags=Flags.SME2 | Flags.FA64), word, Verdict.ILLEGAL)
 
     def test_stack(self):
         machine, word = scatter(), SCATTER | 31 << 5
@@ -273,7 +346,7 @@ class Refusals(unittest.TestCase):
 
     # by word: where element 0's address is given, and its bytes
     FAULTS = {0xE402A001: ("x", 1), 0xE4C28001: ("x", 2), 0xE502A001: ("x", 4), 0xE582A001: ("x", 8), STRIDED: ("x", 8),
-              0xE43F2041: ("z", 16)}
+              0xA1608000: ("x", 1), 0xA1602000: ("x", 2), 0xA160C000: ("x", 4), 0xE43F2041: ("z", 16)}
 
     def fault(self, word, first, base, length, address):
         """Element 0 alone, which lies at `first`, faults at this address, and keeps its first one; None where it is done."""
@@ -440,7 +513,7 @@ def read(string):
         payload = string[at + 12:at + 12 + length]
         writes.update((start + k, byte) for k, byte in enumerate(payload))
         at += 12 + length
-    small = len(runs_of(writes)) <= 64 and len(writes) <= 1024 and all(address < 2**64 for address in writes)
+    small = len(runs_of(writes)) <= 512 and len(writes) <= 1024 and all(address < 2**64 for address in writes)
     return writes if small and encoding(writes) == string else None
 
 
@@ -464,9 +537,11 @@ class Random(unittest.TestCase):
         """A set with bytes near a window."""
         chosen = self.random
         writes = {}
-        for _ in range(chosen.choice([0, 1, 2, 3, 10, 64, 65, 70])):
-            start = base + chosen.randrange(-2, length + 2) if chosen.random() < 0.1 else base + chosen.randrange(max(1, length - 20))
-            for address in range(start, start + chosen.choice([1, 1, 2, 5, 20])):
+        count = chosen.choice([0, 1, 2, 3, 10, 64, 65, 70, 300, 520, 600])
+        outside, lengths = (0.1, [1, 1, 2, 5, 20]) if count < 100 else (0.001, [1])
+        for _ in range(count):
+            start = base + chosen.randrange(-2, length + 2) if chosen.random() < outside else base + chosen.randrange(max(1, length - 20))
+            for address in range(start, start + chosen.choice(lengths)):
                 if 0 <= address < 2**64:
                     writes[address] = chosen.randrange(256)
         return writes
@@ -542,9 +617,9 @@ class Random(unittest.TestCase):
         word |= chosen.randrange(8) << 10 | chosen.choice([0, 3, 30, 30, 31]) << 5 | chosen.randrange(4)
         if class_ == 12:
             return 0xE4202000 | chosen.choice([31, 31, 3]) << 16 | word & 0x1C00 | word & 3
-        if class_ in (10, 11):
+        if class_ in STRIDED_CLASSES and class_ not in SCALAR:
             return word | chosen.choice([0, 0, 1, 15, 8]) << 16
-        return word | chosen.choice([1, 1, 2, 3, 31] if class_ in (8, 9) else [1, 2]) << 16
+        return word | chosen.choice([1, 1, 2, 3, 31] if class_ in SCALAR else [1, 2]) << 16
 
     def other_filling(self, machine, base, length, word, stored, writes):
         """A done store over another filling of its window, in buffers one byte too short and just long enough."""
@@ -562,8 +637,8 @@ class Random(unittest.TestCase):
 
     def test_stores(self):
         counts = dict.fromkeys(list(Verdict)[:9], 0)
-        classes = dict.fromkeys(range(1, 25), 0)
-        for _ in range(4000):
+        classes = dict.fromkeys(range(1, 37), 0)
+        for _ in range(4500):
             length = self.random.choice([0, 64, 3000, 3000, LARGEST_WINDOW])
             base = self.random.choice([0x10000, 0x10000, 2**64 - max(length, 1)])
             machine, word = self.machine(base, length), self.word()

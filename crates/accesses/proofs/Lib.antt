@@ -1,6 +1,6 @@
-pub mod Stretches
+pub mod Actives
 pub mod Masks
 pub mod Listing
 pub mod Soundness
 pub mod Sizes
-pub mod Joined
+pub mod Spacing

@@ -1,14 +1,19 @@
 -- Lists of active elements: one more, and a store's list as its access's. Assumes nothing.
 use mathlib.Core.Path.{_≡_, refl, sym, ap, ap₂, _∙_}
-use mathlib.Core.Bool.{Bool, true, false, cond}
+use mathlib.Core.Bool.{Bool, true, false, cond, _&&_}
 use mathlib.Core.List.{List, [], _∷_}
 use Prim.Native.Nat.{ℕ, zero, suc, _+_, _-_, _*_, _/_, _%_, _^_, _≤_, _<_}
-use native.Mathlib.Nat.{one-mul, mod-one, zero-mod, pow-suc, one-le-pow}
+use native.Mathlib.Nat.{zero-mul, one-mul, suc-mul, mul-assoc, mul-lt-mul-of-pos-right, mod-one, zero-mod, mod-eq-of-lt}
+use native.Mathlib.Nat.{pow-suc, one-le-pow}
+use native.Mathlib.Nat.{mul-mod-left, mul-add-mod-self-right, mul-div-cancel, mul-div-mul-right, div-add-mod', le-div-iff-mul-le}
+use native.Mathlib.Nat.{div-lt-iff-lt-mul}
 use native.Mathlib.Numerals.{add-one}
 use native.Mathlib.Omega.{arith}
 use lib.Arith.{mod-mul}
-use lib.Dec.{lit<}
+use lib.Dec.{eqb, lit<}
 use lib.ListN.{take, drop}
+use lib.Pow.{pow-pos, pow-mono}
+use borrow.Author.Tests.{eqb-true, eqb-false}
 use Rattle.encoding.specs.Classes.{Class}
 use Rattle.encoding.specs.Encoding.{classFor}
 use Rattle.encoding.specs.declared.Extension.{Extension}
@@ -23,15 +28,19 @@ use Rattle.writes.specs.Elements.{Element}
 use Rattle.endian.proofs.LittleEndian.{bytes-take, bytes-drop}
 use Rattle.elements.specs.Machine.{Machine, baseOf, indexOf, vector, predicate}
 use Rattle.elements.specs.Counter.{counterOf, maskBit}
-use Rattle.elements.specs.Stores.{stepOf, sizeOf, perRegister, countOf, signed32, offsetOf, startOf}
+use Rattle.elements.specs.Stores.{stepOf, sizeOf, perRegister, countOf, signed32, offsetOf, strideOf, startOf}
 use Rattle.elements.specs.Elements.{activeAt, elementAt, actives, elements}
 use Rattle.elements.specs.Accesses.{offsetFrom, vectorAddress, vectorActive, vectorElement, vectorElements, scatterAccess}
 use Rattle.elements.specs.Accesses.{quadwordAccess}
-use Rattle.elements.specs.Accesses.{stridedAddress, stridedActive, stridedElement, stridedElements, stridedAccess}
+use Rattle.elements.specs.Accesses.{exponentOf, spacing, rangeOf, between, stridedAddress, stridedActive, stridedElement, stridedElements}
+use Rattle.elements.specs.Accesses.{stridedAccess}
+use Rattle.elements.specs.declared.StridedAccess.{StridedAccess}
 use Rattle.elements.specs.declared.VectorAccess.{VectorAccess}
+use Rattle.elements.proofs.Leaves.{at-lowest}
+use Rattle.elements.proofs.Numbers.{pers}
 use Rattle.elements.proofs.Shapes.{ScatterIn, QuadwordIn, StridedIn}
-use Rattle.accesses.proofs.Stretches.{actives-on, actives-off}
-use Rattle.accesses.proofs.Masks.{range-is}
+use Rattle.accesses.proofs.Actives.{actives-on, actives-off, thinned}
+use Rattle.accesses.proofs.Masks.{multiple, range-is, mask-off}
 
 -- ---- one more element
 
@@ -166,27 +175,179 @@ module _ (m : Machine) (f : QuadwordFields) (s : QuadwordIn f (classFor (Quadwor
       vector-listed m (Quadword f) (quadwordAccess m (classFor (Quadword f)) f) (vector m (f .zn)) (predicate m (f .pg)) (vector m (f .zt))
       quadword-count quadword-active quadword-element
 
-module _ (m : Machine) (f : StridedFields) (s : StridedIn f (classFor (Strided f))) where
-  pub strided-active : (e : ℕ) → e < countOf m (Strided f)
-      → activeAt m (Strided f) e ≡ stridedActive (stridedAccess m (classFor (Strided f)) f) e
-  unfolding activeAt stridedActive
+-- ---- strided stores
+
+module _ (m : Machine) (f : StridedFields) (s : StridedIn f (classFor (Strided f))) (sixteen : m .vb % 16 ≡ 0) where
+  abbrev c : Class
+  c = classFor (Strided f)
+
+  -- the exponents of an element's bytes and of the distance
+  abbrev x : ℕ
+  x = exponentOf c
+
+  abbrev v : ℕ
+  v = counterOf m (f .pc)
+
+  abbrev g : ℕ
+  g = spacing x v
+
+  abbrev access : StridedAccess
+  access = stridedAccess m c f
+
+  pub few : g ≤ 3
+  few = at-lowest (λ (n : ℕ). x + (n - x) ≤ 3) (omega (arith, s .exponent)) (omega (arith, s .exponent)) (omega (arith, s .exponent))
+      (omega (arith, s .exponent)) v
+
+  -- a power of 2 up to 8 divides VB
+  pub divides : (n : ℕ) → n ≤ 3 → m .vb / 2 ^ n * 2 ^ n ≡ m .vb
+  divides n h =
+      let e : 16 ≡ 2 ^ (4 - n) * 2 ^ n = multiple n 4 (omega arith) in
+      let w : m .vb ≡ m .vb / 16 * 2 ^ (4 - n) * 2 ^ n =
+      omega (arith, ap (λ (k : ℕ). m .vb / 16 * k) e, mul-assoc (m .vb / 16) (2 ^ (4 - n)) (2 ^ n)) in
+      ap (λ (k : ℕ). k / 2 ^ n * 2 ^ n) w ∙ ap (λ (k : ℕ). k * 2 ^ n) (mul-div-cancel (m .vb / 16 * 2 ^ (4 - n)) (pow-pos n)) ∙ sym w
+
+  -- how many elements from one that can be active to the next
+  abbrev every : ℕ
+  every = 2 ^ (g - x)
+
+  gap-is : 2 ^ g ≡ every * 2 ^ x
+  gap-is = multiple x g (omega arith)
+
+  spaced : (k : ℕ) → k * every * 2 ^ x ≡ k * 2 ^ g
+  spaced k = mul-assoc k every (2 ^ x) ∙ ap (λ (n : ℕ). k * n) (sym gap-is)
+
+  per : perRegister m c ≡ m .vb / 2 ^ x
+  per = sym (pers (m .vb) c (s .eight) (2 ^ x) (sym (s .step)))
+
+  -- registers are whole elements
+  pub strided-whole : perRegister m c * sizeOf c ≡ m .vb
+  strided-whole = (λ i. per i * s .size i) ∙ divides x (omega (arith, s .exponent))
+
+  per-every : m .vb / 2 ^ g * every ≡ m .vb / 2 ^ x
+  per-every =
+      let w : m .vb ≡ m .vb / 2 ^ g * every * 2 ^ x = sym (spaced (m .vb / 2 ^ g) ∙ divides g few) in
+      sym (ap (λ (k : ℕ). k / 2 ^ x) w ∙ mul-div-cancel (m .vb / 2 ^ g * every) (pow-pos x))
+
+  count-every : countOf m (Strided f) ≡ c .nreg * (m .vb / 2 ^ g) * every
+  count-every = ap (λ (n : ℕ). c .nreg * n) (per ∙ sym per-every) ∙ sym (mul-assoc (c .nreg) (m .vb / 2 ^ g) every)
+
+  -- ---- which are active
+
+  between-is : (k : ℕ) → k < c .nreg * (m .vb / 2 ^ g) → between access k ≡ maskBit (m .vb) v (k * 2 ^ g)
+  unfolding between rangeOf
+  between-is k h = range-is (m .vb) v g (c .nreg * (m .vb / 2 ^ g)) (omega arith) k h
+
+  pub strided-active : (e : ℕ) → e < countOf m (Strided f) → activeAt m (Strided f) e ≡ stridedActive access (e * sizeOf c)
+  unfolding activeAt stridedActive rangeOf
   strided-active e h =
-      let v = counterOf m (f .pc) in
-      ap (λ (n : ℕ). maskBit (m .vb) v (e * n)) (s .step) ∙ sym (range-is (m .vb) v (countOf m (Strided f)) e h)
+      ap (λ (n : ℕ). maskBit (m .vb) v (e * n)) (s .step)
+      ∙ go (eqb (i % 2 ^ g) 0) refl
+      ∙ ap (λ (n : ℕ). eqb (e * n % 2 ^ g) 0 && between access (e * n / 2 ^ g)) (sym (s .size))
+    where
+      i : ℕ
+      i = e * 2 ^ x
+
+      small : i < c .nreg * (m .vb / 2 ^ g) * 2 ^ g
+      small =
+          omega (
+            arith,
+            mul-lt-mul-of-pos-right h (pow-pos x),
+            ap (λ (n : ℕ). n * 2 ^ x) count-every,
+            spaced (c .nreg * (m .vb / 2 ^ g)),
+          )
+
+      go : (b : Bool) → eqb (i % 2 ^ g) 0 ≡ b → maskBit (m .vb) v i ≡ eqb (i % 2 ^ g) 0 && between access (i / 2 ^ g)
+      go true q =
+          let w : i / 2 ^ g * 2 ^ g ≡ i = omega (arith, div-add-mod' i (2 ^ g), eqb-true (i % 2 ^ g) 0 q) in
+          ap (maskBit (m .vb) v) (sym w)
+          ∙ sym (between-is (i / 2 ^ g) (div-lt-iff-lt-mul (pow-pos g) .1 small))
+          ∙ ap (λ (b : Bool). b && between access (i / 2 ^ g)) (sym q)
+      go false q = mask-off (m .vb) v x e (eqb-false (i % 2 ^ g) 0 q) ∙ ap (λ (b : Bool). b && between access (i / 2 ^ g)) (sym q)
+
+  -- none between two that are `every` apart
+  off : (d : ℕ) → every ≡ suc d → (k i : ℕ) → i < d → activeAt m (Strided f) (suc (k * suc d + i)) ≡ false
+  unfolding activeAt
+  off d q k i h =
+      let e = suc (k * suc d + i) in
+      let r : e % suc d ≡ suc i =
+      ap (λ (n : ℕ). n % suc d) (omega arith) ∙ mul-add-mod-self-right k (suc d) (suc i) ∙ mod-eq-of-lt (omega arith) in
+      ap (λ (n : ℕ). maskBit (m .vb) v (e * n)) (s .step)
+      ∙ mask-off (m .vb) v x e
+      (λ z.
+      let w : e * 2 ^ x % (suc d * 2 ^ x) ≡ suc i * 2 ^ x =
+      mod-mul (e * 2 ^ x) (omega arith) (pow-pos x)
+      ∙ omega (
+        arith,
+        mul-mod-left e (2 ^ x),
+        ap (λ (n : ℕ). n % suc d * 2 ^ x) (mul-div-cancel e (pow-pos x)),
+        ap (λ (n : ℕ). n * 2 ^ x) r,
+      ) in
+      omega (
+        arith,
+        suc-mul i (2 ^ x),
+        pow-pos x,
+        w,
+        ap (λ (n : ℕ). e * 2 ^ x % n) (gap-is ∙ ap (λ (n : ℕ). n * 2 ^ x) q),
+        z,
+      ))
+
+  -- ---- and what they are
 
   wrapped : (a d : ℕ) → (a + d) % 2 ^ 64 ≡ (a % 2 ^ 64 + d) % 2 ^ 64
   wrapped a d = omega arith
 
-  pub strided-element : (e : ℕ) → elementAt m (Strided f) e ≡ stridedElement (stridedAccess m (classFor (Strided f)) f) (m .vb) (m .z) e
-  unfolding elementAt stridedElement stridedAddress
-  strided-element e =
-      let c = classFor (Strided f) in
-      element-same e _ _ _ (wrapped (startOf m c (f .rn) (f .rm) (f .multiple)) (e * stepOf c))
+  -- an element's number and where it lies, counted by those that can be active
+  numbered : (k : ℕ) → k * every ≡ k * 2 ^ g / sizeOf c
+  numbered k =
+      sym (mul-div-cancel (k * every) (pow-pos x)) ∙ ap (λ (n : ℕ). n / 2 ^ x) (spaced k) ∙ ap (λ (n : ℕ). k * 2 ^ g / n) (sym (s .size))
 
-  pub strided-elements : elements m (Strided f) ≡ stridedElements (stridedAccess m (classFor (Strided f)) f) (m .vb) (m .z)
-  unfolding elements stridedElements
-  strided-elements =
-      let c = classFor (Strided f) in
-      let p = stridedAccess m c f in
-      actives-below (activeAt m (Strided f)) (stridedActive p) (elementAt m (Strided f)) (stridedElement p (m .vb) (m .z))
-      (c .nreg * perRegister m c) strided-active strided-element (c .nreg * perRegister m c) 0 (omega arith)
+  at-step : (k : ℕ) → k * every * stepOf c ≡ k * 2 ^ g
+  at-step k = ap (λ (n : ℕ). k * every * n) (s .step) ∙ spaced k
+
+  row : (k : ℕ) → k * every / perRegister m c ≡ k / (m .vb / 2 ^ g)
+  row k = ap (λ (n : ℕ). k * every / n) (per ∙ sym per-every) ∙ mul-div-mul-right k (m .vb / 2 ^ g) (pow-pos (g - x))
+
+  index : 16 ≤ m .vb → (k : ℕ) → k * every % perRegister m c * stepOf c ≡ k % (m .vb / 2 ^ g) * 2 ^ g
+  index low k =
+      let p : ℕ = m .vb / 2 ^ g in
+      let o : 0 < p = le-div-iff-mul-le (pow-pos g) .1 (omega (arith, pow-mono few)) in
+      let w : k * every % (p * every) ≡ k % p * every =
+      mod-mul (k * every) o (pow-pos (g - x))
+      ∙ omega (arith, mul-mod-left k every, ap (λ (n : ℕ). n % p * every) (mul-div-cancel k (pow-pos (g - x)))) in
+      ap (λ (n : ℕ). k * every % n * stepOf c) (per ∙ sym per-every) ∙ ap (λ (n : ℕ). n * stepOf c) w ∙ at-step (k % p)
+
+  pub strided-address : (e : ℕ) → elementAt m (Strided f) e .address ≡ (access .start + e * sizeOf c) % 2 ^ 64
+  unfolding elementAt
+  strided-address e =
+      let start = startOf m c (f .rn) (f .rm) (f .multiple) in
+      wrapped start (e * stepOf c) ∙ ap (λ (n : ℕ). (start % 2 ^ 64 + e * n) % 2 ^ 64) (s .step ∙ sym (s .size))
+
+  strided-element : 16 ≤ m .vb → (k : ℕ) → elementAt m (Strided f) (k * every) ≡ stridedElement access (m .vb) (m .z) k
+  unfolding elementAt stridedElement stridedAddress rangeOf
+  strided-element low k =
+      let start = startOf m c (f .rn) (f .rm) (f .multiple) in
+      let a = wrapped start (k * every * stepOf c) ∙ ap (λ (n : ℕ). (start % 2 ^ 64 + n) % 2 ^ 64) (at-step k) in
+      let b = ap₂ (λ (n r : ℕ). take (sizeOf c) (drop n (vector m (f .first + r * strideOf c)))) (index low k) (row k) in
+      λ i. record { number = numbered k i; address = a i; bytes = b i }
+
+  pub strided-elements : 16 ≤ m .vb → elements m (Strided f) ≡ stridedElements access (m .vb) (m .z)
+  unfolding elements stridedElements rangeOf activeAt
+  strided-elements low = go every refl (pow-pos (g - x))
+    where
+      n : ℕ
+      n = c .nreg * (m .vb / 2 ^ g)
+
+      go : (d : ℕ) → every ≡ d → 0 < d → elements m (Strided f) ≡ stridedElements access (m .vb) (m .z)
+      go zero q h = absurd (omega arith)
+      go (suc d) q h =
+          ap (λ (k : ℕ). actives (activeAt m (Strided f)) (elementAt m (Strided f)) k 0) (count-every ∙ ap (λ (k : ℕ). n * k) q)
+          ∙ ap (actives (activeAt m (Strided f)) (elementAt m (Strided f)) (n * suc d)) (sym (zero-mul (suc d)))
+          ∙ thinned (activeAt m (Strided f)) (elementAt m (Strided f)) d (off d q) n 0
+          ∙ actives-below (λ j. activeAt m (Strided f) (j * suc d)) (between access) (λ j. elementAt m (Strided f) (j * suc d))
+          (stridedElement access (m .vb) (m .z)) n
+          (λ k l.
+          ap (λ (j : ℕ). activeAt m (Strided f) (k * j)) (sym q)
+          ∙ ap (maskBit (m .vb) v) (at-step k)
+          ∙ sym (between-is k l))
+          (λ k. ap (λ (j : ℕ). elementAt m (Strided f) (k * j)) (sym q) ∙ strided-element low k)
+          n 0 (omega arith)

@@ -1,9 +1,10 @@
 -- The access of a store that isn't refused is sound on a machine with registers of vb bytes. Assumes nothing.
 use mathlib.Core.Path.{_≡_, sym, ap, _∙_, subst}
-use Prim.Native.Nat.{ℕ, zero, suc, _+_, _-_, _*_, _/_, _%_, _≤_, _<_}
+use Prim.Native.Nat.{ℕ, zero, suc, _+_, _-_, _*_, _/_, _%_, _^_, _≤_, _<_}
 use native.Mathlib.Nat.{div-mul-le-self, le-div-iff-mul-le, suc-mul}
 use mathlib.Core.Logic.{_⊎_, inl, inr}
 use native.Mathlib.Omega.{arith}
+use lib.Pow.{pow-pos, pow-mono}
 use Rattle.encoding.specs.Classes.{Class}
 use Rattle.encoding.specs.Encoding.{classFor}
 use Rattle.encoding.specs.declared.ScatterFields.{ScatterFields}
@@ -14,19 +15,15 @@ use Rattle.elements.specs.Machine.{Machine}
 use Rattle.elements.specs.Counter.{counterOf}
 use Rattle.elements.specs.Stores.{stepOf, perRegister, strideOf}
 use Rattle.elements.specs.Accesses.{isWidth, VectorSound, StridedSound, scatterAccess, quadwordAccess, stridedAccess}
+use Rattle.elements.specs.Accesses.{exponentOf, spacing, rangeOf}
 use Rattle.elements.proofs.Numbers.{per-is}
 use Rattle.elements.proofs.Shapes.{ScatterIn, QuadwordIn, StridedIn}
 use Rattle.accesses.proofs.Masks.{range-order, range-most}
+use Rattle.accesses.proofs.Listing.{few, divides}
 
 module _ (m : Machine) (c : Class) (e : c .esize / 8 * 8 ≡ c .esize) where
   per-whole : perRegister m c * stepOf c ≤ m .vb
   per-whole = subst (λ (n : ℕ). n * stepOf c ≤ m .vb) (per-is (m .vb) c e) (div-mul-le-self (m .vb) (stepOf c))
-
-  per-some : 16 ≤ m .vb → stepOf c ≤ 16 → 1 ≤ stepOf c → 0 < perRegister m c
-  per-some l h k = subst (λ (n : ℕ). 0 < n) (per-is (m .vb) c e) (some (m .vb) (stepOf c) k (omega arith))
-    where
-      some : (a b : ℕ) → 1 ≤ b → b ≤ a → 0 < a / b
-      some a b h k = le-div-iff-mul-le h .1 (omega arith)
 
 eight-step : (n : ℕ) → (n ≡ 8) ⊎ (n ≡ 4) → 8 ≤ n → n ≡ 8
 eight-step n (inl e) h = e
@@ -77,17 +74,20 @@ module _ (m : Machine) (low : 16 ≤ m .vb) (high : m .vb ≤ 256) (sixteen : m 
 
   pub strided-sound : (f : StridedFields) → StridedIn f (classFor (Strided f))
       → StridedSound (stridedAccess m (classFor (Strided f)) f) (m .vb)
+  unfolding rangeOf
   strided-sound f s =
       let c = classFor (Strided f) in
+      let v = counterOf m (f .pc) in
+      let g = spacing (exponentOf c) v in
+      let n = c .nreg * (m .vb / 2 ^ g) in
+      let three = few m f s sixteen in
       record {
-        order = range-order (m .vb) (counterOf m (f .pc)) (c .nreg * perRegister m c);
-        most = range-most (m .vb) (counterOf m (f .pc)) (c .nreg * perRegister m c);
-        packed = s .step ∙ sym (s .size);
-        wide = omega (arith, s .step);
+        order = range-order (m .vb) v g n;
+        most = range-most (m .vb) v g n;
         some = s .small .size .0;
-        size = s .small .size .1;
-        whole = per-whole m c (s .eight);
-        per = per-some m c (s .eight) low (s .small .step .1) (s .small .step .0);
+        size = subst (λ (k : ℕ). k ≤ 2 ^ g) (sym (s .size)) (pow-mono {j = g} (omega arith));
+        whole = divides m f s sixteen g three;
+        per = le-div-iff-mul-le (pow-pos g) .1 (omega (arith, pow-mono three));
         nreg = s .small .nreg;
         high = high;
         last = registers (c .nreg) (strideOf c) (f .first) (s .nreg) (s .registers) (s .first) (s .zt);

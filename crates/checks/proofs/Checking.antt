@@ -46,7 +46,7 @@ access-to m o b (S.Scatter f) a =
     record { sound = scatter-sound m (o .low) (o .high) (o .sixteen) f i; listed = scatter-elements m b f i }
 access-to m o b (S.Strided f) a =
     let i = strided-in f a in
-    record { sound = strided-sound m (o .low) (o .high) (o .sixteen) f i; listed = strided-elements m f i }
+    record { sound = strided-sound m (o .low) (o .high) (o .sixteen) f i; listed = strided-elements m f i (o .sixteen) (o .low) }
 access-to m o b (S.Quadword f) a =
     let i = quadword-in f a in
     record { sound = quadword-sound m (o .low) (o .high) (o .sixteen) f i; listed = quadword-elements m f i }

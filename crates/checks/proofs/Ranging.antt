@@ -16,7 +16,7 @@ use Rattle.window.proofs.Windows.{in-window}
 use Rattle.elements.specs.Accesses.{StridedSound, stridedAddress, stridedElement, stridedElements}
 use Rattle.elements.specs.declared.StridedAccess.{StridedAccess}
 use Rattle.accesses.proofs.Sizes.{bytes-long}
-use Rattle.accesses.proofs.Joined.{listed, strided-listed, strided-none, each-inside}
+use Rattle.accesses.proofs.Spacing.{listed, strided-listed, strided-none, reach, each-inside}
 use Rattle.verdicts.specs.Verdicts.{someActive, firstOutside}
 
 module _ (el : ℕ → Element) (W L : ℕ) where
@@ -75,14 +75,14 @@ module _ (s : StridedAccess) (vb : ℕ) (o : StridedSound s vb) (z : List ℕ) w
     unfolding firstOutside
     ranged-done e h k = sym (ap (firstOutside W L) (listed-none el W L (s .high) e h)) ∙ k
 
-    -- the whole stretch lies in the window
-    pub stretch-inside : length z ≡ 32 * vb → s .low < s .high → W + L ≤ 2 ^ 64 → W ≤ stridedAddress s (s .low)
-        → stridedAddress s (s .low) + (s .high - s .low) * s .size ≤ W + L → none ≡ firstOutside W L (stridedElements s vb z)
+    -- they lie in the window, from the first one's first byte to the last one's last
+    pub all-reached : length z ≡ 32 * vb → s .low < s .high → W + L ≤ 2 ^ 64 → W ≤ stridedAddress s (s .low)
+        → stridedAddress s (s .low) + reach s ≤ W + L → none ≡ firstOutside W L (stridedElements s vb z)
     unfolding stridedElement
-    stretch-inside q h top a b =
+    all-reached q h top a b =
         sym (ap (firstOutside W L) (strided-listed s vb o z)
         ∙ all-inside el W L (s .high - s .low) (s .low)
         (λ i c d.
         let u : i < s .high = omega arith in
-        let f = each-inside s vb o z q h (omega arith) W L i a b c u in
+        let f = each-inside s vb o z h (omega arith) W L i a b c u in
         ap (inWindow W L (stridedAddress s i)) (bytes-long s vb o z q i u) ∙ in-window W L (stridedAddress s i) (s .size) (f .0) (f .1)))

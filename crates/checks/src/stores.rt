@@ -103,7 +103,7 @@ fn access_for(store: Store, vb: usize, x: &[u64; 31], sp: u64, p: &[u8]) -> Chec
             let start = elements::start_of(f, vb, x, sp);
             let range = counters::range_for(f, vb, p);
             Checked::Strided {
-                access: elements::strided_access(f, start, range, vb),
+                access: elements::strided_access(f, start, range),
             }
         }
         Store::Quadword(f) => Checked::Vector {

@@ -1,2 +1,2 @@
--- ---- what serves the contracts of the code's own functions: the active elements of one register
-pub mod Parts
+-- ---- what serves the contracts of the code's own functions: elements put over memory at equal distances
+pub mod Spreading

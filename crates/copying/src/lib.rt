@@ -1,11 +1,10 @@
-// The bytes of a strided store's active elements, copied element by element out of their registers to where they lie in a row.
+// A strided store's active elements, copied one by one out of their registers to memory.
 ghost use mathlib.Core.Path.{_≡_};
 ghost use Prim.Native.Nat.{_+_, _-_, _*_, _≤_, _<_};
 ghost use lib.ListN.{length};
-ghost use Rattle.endian.specs.Overwriting.{overwritten};
 ghost use Rattle.elements.specs.Machine.{register};
-ghost use Rattle.elements.specs.Accesses.{StridedSound, stridedElement, bytesFrom, stridedBytes};
-ghost use Rattle.copying.specs.Parts.{PartOf};
+ghost use Rattle.elements.specs.Accesses.{StridedSound};
+ghost use Rattle.copying.specs.Spreading.{Room, Copies, spread};
 use elements::Counts;
 use elements::StridedAccess;
 
@@ -19,19 +18,22 @@ fn row_of(s: StridedAccess, vb: usize, z: &[u8], r: usize) -> &[u8]
     elements::register_of(z, vb, s.first + r * s.stride)
 }
 
-// Copies n elements of `size` bytes each into a slice of their length, each of them to its part of it, and counts them.
-fn copy_each(dst: &mut [u8], src: &[u8], n: usize, size: usize) -> Counts
-    requires { ⌜ (length (now dst) ≡ n * size) × (length (now src) ≡ n * size) × (n ≤ 1024) × (size ≤ 256) ⌝ }
-    ensures { λ r. ⌜ (r .elements ≡ n) × (r .bytes ≡ n * size) ⌝ }
-    ensures { λ _. ⌜ now (dst .exit) ≡ now (src .entry) ⌝ }
+// Copies n elements of `size` bytes, `gap` bytes from one to the next in both slices, from offset `at` on: each one's place in memory is
+// lent to the byte writer, and it is counted.
+fn copy_each(memory: &mut [u8], at: usize, src: &[u8], n: usize, gap: usize, size: usize) -> Counts
+    requires { ⌜ Room (now src) (now memory) at n gap size ⌝ }
+    ensures { λ r.
+        ⌜ Copies (now (src .entry)) (now (memory .entry)) at n gap size (r .elements) (r .bytes) (now (memory .exit)) ⌝ }
 {
     let mut elements: u64 = 0;
     let mut bytes: u64 = 0;
     let mut e: usize = 0;
     while e < n {
-        let at = e * size;
-        let to = at + size;
-        endian::copy(&mut dst[at..to], &src[at..to]);
+        let from = e * gap;
+        let end = from + size;
+        let p = at + from;
+        let to = p + size;
+        endian::copy(&mut memory[p..to], &src[from..end]);
         elements += 1;
         bytes += size as u64;
         e += 1;
@@ -39,70 +41,66 @@ fn copy_each(dst: &mut [u8], src: &[u8], n: usize, size: usize) -> Counts
     Counts { elements, bytes }
 }
 
-// The same with a constant for the size, so that the compiler makes a loop of its own for it.
-fn copy_elements(dst: &mut [u8], src: &[u8], n: usize, size: usize) -> Counts
-    requires { ⌜ (length (now dst) ≡ n * size) × (length (now src) ≡ n * size) × (n ≤ 1024) × (size ≤ 256) ⌝ }
-    ensures { λ r. ⌜ (r .elements ≡ n) × (r .bytes ≡ n * size) ⌝ }
-    ensures { λ _. ⌜ now (dst .exit) ≡ now (src .entry) ⌝ }
-{
-    if size == 8 {
-        return copy_each(dst, src, n, 8);
-    }
-    copy_each(dst, src, n, size)
-}
-
-// Copies elements e up to `to`, which are active and of register r, to their index among the active elements' bytes, and counts them.
-fn copy_part(
-    s: StridedAccess,
-    vb: usize,
-    z: &[u8],
-    r: usize,
-    e: usize,
-    to: usize,
-    out: &mut [u8],
+// The same with constants for gap and size, so that the compiler makes loops of their own for them.
+fn copy_elements(
+    memory: &mut [u8],
+    at: usize,
+    src: &[u8],
+    n: usize,
+    gap: usize,
+    size: usize,
 ) -> Counts
-    requires { ⌜ StridedSound s vb ⌝ }
-    requires { ⌜ length (now z) ≡ 32 * vb ⌝ }
-    requires { ⌜ PartOf s r e to ⌝ }
-    requires { ⌜ length (now out) ≡ (s .high - s .low) * s .size ⌝ }
-    ensures { λ r. ⌜ (r .elements ≡ to - e) × (r .bytes ≡ (to - e) * s .size) ⌝ }
-    ensures { λ _.
-        ⌜ now (out .exit)
-        ≡ overwritten (now (out .entry)) ((e - s .low) * s .size) (bytesFrom (stridedElement s vb (now (z .entry))) (to - e) e) ⌝ }
+    requires { ⌜ Room (now src) (now memory) at n gap size ⌝ }
+    ensures { λ r.
+        ⌜ Copies (now (src .entry)) (now (memory .entry)) at n gap size (r .elements) (r .bytes) (now (memory .exit)) ⌝ }
 {
-    let n = (to - e) * s.size;
-    let from = (e - r * s.per) * s.step;
-    let end = from + n;
-    let at = (e - s.low) * s.size;
-    let until = at + n;
-    let reg = row_of(s, vb, z, r);
-    copy_elements(&mut out[at..until], &reg[from..end], to - e, s.size)
+    if gap == size {
+        if size == 8 {
+            return copy_each(memory, at, src, n, 8, 8);
+        }
+        if size == 1 {
+            return copy_each(memory, at, src, n, 1, 1);
+        }
+        if size == 4 {
+            return copy_each(memory, at, src, n, 4, 4);
+        }
+        if size == 2 {
+            return copy_each(memory, at, src, n, 2, 2);
+        }
+    }
+    if size == 1 {
+        return copy_each(memory, at, src, n, gap, 1);
+    }
+    copy_each(memory, at, src, n, gap, size)
 }
 
-// Copies the active elements' bytes, one register after the other, and counts them.
-pub fn copy_active(s: StridedAccess, vb: usize, z: &[u8], out: &mut [u8]) -> Counts
+// Copies the active elements, one register after the other, and counts them. The first one's place is at offset `at`.
+pub fn copy_active(s: StridedAccess, vb: usize, z: &[u8], memory: &mut [u8], at: usize) -> Counts
     requires { ⌜ StridedSound s vb ⌝ }
     requires { ⌜ length (now z) ≡ 32 * vb ⌝ }
-    requires { ⌜ length (now out) ≡ (s .high - s .low) * s .size ⌝ }
+    requires { ⌜ (length (now memory) ≤ 65536) × (at + (s .high - s .low) * s .gap ≤ length (now memory) + (s .gap - s .size)) ⌝ }
     ensures { λ r. ⌜ r .elements ≡ s .high - s .low ⌝ }
     ensures { λ r. ⌜ r .bytes ≡ (s .high - s .low) * s .size ⌝ }
-    ensures { λ _. ⌜ now (out .exit) ≡ stridedBytes s vb (now (z .entry)) ⌝ }
+    ensures { λ _. ⌜ now (memory .exit) ≡ spread s vb (now (z .entry)) (s .high - s .low) (s .low) (now (memory .entry)) at ⌝ }
 {
     let nreg = s.nreg;
     let mut elements: u64 = 0;
     let mut bytes: u64 = 0;
-    let mut e = s.low;
+    let mut k = s.low;
     let mut r = 0;
     while r < nreg {
         let to = elements::lower(s.high, (r + 1) * s.per);
-        if to <= e {
+        if to <= k {
             r += 1;
             continue;
         }
-        let counts = copy_part(s, vb, z, r, e, to, out);
+        let reg = row_of(s, vb, z, r);
+        let from = (k - r * s.per) * s.gap;
+        let p = at + (k - s.low) * s.gap;
+        let counts = copy_elements(memory, p, &reg[from..], to - k, s.gap, s.size);
         elements += counts.elements;
         bytes += counts.bytes;
-        e = to;
+        k = to;
         r += 1;
     }
     Counts { elements, bytes }

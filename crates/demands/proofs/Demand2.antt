@@ -2,8 +2,8 @@
 use mathlib.Core.Path.{_≡_, refl}
 use mathlib.Core.List.{[], _∷_}
 use Rattle.encoding.specs.Classes.{classes}
-use Rattle.encoding.proofs.Statements.{decodes-its-class, undefined-outside, one-class-only, scatter-widths, refused-for-a-cause}
-use Rattle.encoding.proofs.Statements.{encodes-decoded, decodes-encoded}
+use Rattle.encoding.proofs.Statements.{decodes-its-class, undefined-outside, one-class-only, scatter-widths, strided-widths}
+use Rattle.encoding.proofs.Statements.{refused-for-a-cause, encodes-decoded, decodes-encoded}
 use Rattle.encoding.proofs.Numbers.{numbers-from-bits}
 use Rattle.codec.proofs.Statements.{encodes-decoded-numbers, decodes-encoded-numbers, refuses-numbers}
 use Rattle.verdicts.specs.Verdicts.{number}
@@ -36,8 +36,9 @@ pub demand2 : Demand2
 unfolding classes
 demand2 =
     record {
-      twenty-four = refl;
+      thirty-six = refl;
       scatter-widths = scatter-widths;
+      strided-widths = strided-widths;
       accepts = decodes-its-class;
       no-others = undefined-outside;
       one-class = one-class-only;

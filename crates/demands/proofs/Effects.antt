@@ -1,10 +1,10 @@
 -- What a done store comes with: its elements lie in the window, and its net effect is within the sizes. Assumes nothing.
-use mathlib.Core.Path.{_≡_, refl, sym, ap, _∙_, subst}
-use Prim.Native.Nat.{ℕ, _+_, _*_, _/_, _^_, _≤_}
+use mathlib.Core.Path.{_≡_, sym, ap, _∙_, subst}
+use Prim.Native.Nat.{ℕ, suc, _+_, _-_, _*_, _/_, _^_, _≤_, _<_}
 use mathlib.Core.Bool.{true, false}
 use mathlib.Core.List.{List}
 use mathlib.Core.Option.{none}
-use native.Mathlib.Nat.{one-mul, mul-assoc, mul-le-mul, mul-le-mul-left, mul-le-mul-right}
+use native.Mathlib.Nat.{one-mul, mul-suc, mul-le-mul-left, mul-le-mul-right}
 use native.Mathlib.Omega.{arith}
 use lib.ListN.{length, drop}
 use Rattle.encoding.specs.Decoding.{decodeOf}
@@ -23,15 +23,21 @@ use Rattle.writes.specs.Sizes.{maxRuns, maxBytes}
 use Rattle.window.specs.Window.{windowOk}
 use Rattle.writes.proofs.Counting.{OfSize, in-space, steps-length, runs-steps, length-net}
 use Rattle.endian.proofs.LittleEndian.{bytes-take, bytes-drop}
+use Rattle.endian.proofs.Order.{two}
 use Rattle.writes.proofs.Runs.{length-encode}
 use Rattle.writes.proofs.Statements.{net-effect-is-a-set}
 use Rattle.window.proofs.Windows.{window-inv}
-use Rattle.elements.specs.Counter.{counterOf, maskBit}
 use Rattle.elements.specs.Machine.{Machine, vector}
-use Rattle.elements.specs.Stores.{stepOf, sizeOf, perRegister, countOf, startOf, registerIn, indexIn}
+use Rattle.elements.specs.Stores.{stepOf, sizeOf, perRegister, countOf, registerIn, indexIn}
+use Rattle.elements.specs.Accesses.{StridedSound, stridedElements, stridedAccess}
+use Rattle.elements.specs.declared.StridedAccess.{StridedAccess}
 use Rattle.elements.specs.Elements.{activeAt, elementAt, elements}
 use Rattle.elements.proofs.Shapes.{scatter-in, quadword-in, strided-in}
-use Rattle.accesses.proofs.Stretches.{OneStretch, counter-stretch, actives-length, actives-sized, stretch-start}
+use Rattle.accesses.proofs.Actives.{actives-length, actives-sized}
+use Rattle.accesses.proofs.Listing.{strided-elements}
+use Rattle.accesses.proofs.Sizes.{reach-small}
+use Rattle.accesses.proofs.Soundness.{strided-sound}
+use Rattle.accesses.proofs.Spacing.{strided-count, strided-none, strided-joined, strided-apart}
 use Rattle.verdicts.specs.Verdicts.{elementsFor, patchOf, table}
 use Rattle.verdicts.specs.Statements.{before}
 use Rattle.verdicts.specs.declared.Flags.{Flags}
@@ -49,9 +55,9 @@ pub record Sizes (m : Machine) (s : Store) : Type 0 where
   pub most-bytes : ℕ
   pub runs : length (runs (netEffect (elements m s))) ≤ most-runs
   pub bytes : length (netEffect (elements m s)) ≤ most-bytes
-  pub few : most-runs ≤ 64
+  pub few : most-runs ≤ 512
   pub small : most-bytes ≤ 1024
-  pub short : 4 + 12 * most-runs + most-bytes ≤ 1040
+  pub short : 4 + 12 * most-runs + most-bytes ≤ 6660
 
 module _ (m : Machine) (o : Sound (m .vb) (m .z) (m .p)) (lent : Bytes (m .z)) where
   element-are-bytes : (s : Store) (e : ℕ) → Bytes (elementAt m s e .bytes)
@@ -107,49 +113,86 @@ module _ (m : Machine) (o : Sound (m .vb) (m .z) (m .p)) (lent : Bytes (m .z)) w
             short = omega arith;
           }
 
-  -- strided stores: at most 128 doublewords, in one stretch
+  -- strided stores: one stretch of at most 1,024 bytes, or at most 512 elements with gaps between them
   module _ (f : StridedFields) (a : refused (Strided f) ≡ false) (W L : ℕ) (most : L ≤ 65536) (top : W + L ≤ 2 ^ 64)
       (fit : InWindow W L (elements m (Strided f))) (space : InSpace (elements m (Strided f))) where
-    eight : (stepOf (classFor (Strided f)) ≡ 8) × (sizeOf (classFor (Strided f)) ≡ 8)
-    eight = let s = strided-in f a in (s .step, s .size)
+    abbrev access : StridedAccess
+    access = stridedAccess m (classFor (Strided f)) f
 
-    stretch : OneStretch (activeAt m (Strided f))
-    unfolding activeAt
-    stretch =
-        let v = counterOf m (f .pc) in
-        subst (λ (k : ℕ). OneStretch (λ (i : ℕ). maskBit (m .vb) v (i * k))) (sym (eight .0)) (counter-stretch (m .vb) v)
+    sound : StridedSound access (m .vb)
+    sound = strided-sound m (o .low) (o .high) (o .sixteen) f (strided-in f a)
 
-    one-run : stepsFrom none (elements m (Strided f)) ≤ 1
-    unfolding elements elementAt
-    one-run =
-        let s = Strided f in
-        let c = classFor s in
-        stretch-start (activeAt m s) (elementAt m s) (stepOf c) (startOf m c (f .rn) (f .rm) (f .multiple)) (countOf m s) W L stretch
-        (λ i. refl)
-        (λ i h. element-of m s i o a h .0 ∙ eight .1 ∙ sym (eight .0))
-        most top fit
+    are : elements m (Strided f) ≡ stridedElements access (m .vb) (m .z)
+    are = strided-elements m f (strided-in f a) (o .sixteen) (o .low)
 
-    strided-bytes : countOf m (Strided f) * sizeOf (classFor (Strided f)) ≤ 1024
-    strided-bytes =
-        let c = classFor (Strided f) in
-        let s = strided-in f a in
-        let w : perRegister m c * 8 ≤ 256 =
-        subst (λ (n : ℕ). perRegister m c * n ≤ 256) (eight .0) (omega (arith, whole m c (s .eight), o .high)) in
-        subst (λ (n : ℕ). c .nreg * perRegister m c * n ≤ 1024) (sym (eight .1))
-        (omega (arith, mul-assoc (c .nreg) (perRegister m c) 8, mul-le-mul (s .small .nreg) w))
+    inside : InWindow W L (stridedElements access (m .vb) (m .z))
+    inside = subst (InWindow W L) are fit
+
+    abbrev count : ℕ
+    count = access .high - access .low
+
+    reaches : count * access .gap ≤ 1024
+    reaches = reach-small access (m .vb) sound count (omega (arith, sound .most))
+
+    some : 1 ≤ sizeOf (classFor (Strided f))
+    some = sound .some
+
+    bytes-count : length (netEffect (elements m (Strided f))) ≤ count * access .size
+    bytes-count =
+        omega (
+          arith,
+          length-net (sizeOf (classFor (Strided f))) (elements m (Strided f)) (of-size (Strided f) a),
+          ap (λ (l : List Element). length l * access .size) are,
+          ap (λ (n : ℕ). n * access .size) (strided-count access (m .vb) sound (m .z)),
+        )
+
+    pub steps-joined : access .gap ≡ access .size → stepsOf (elements m (Strided f)) ≤ 1
+    unfolding stepsFrom
+    steps-joined g =
+        two (access .low) (access .high)
+        (λ h.
+        omega (
+          arith,
+          ap (λ (l : List Element). stepsOf l) are,
+          strided-joined access (m .vb) sound (m .z) (o .long-z) W L most top inside g h,
+        ))
+        (λ h. omega (arith, ap (λ (l : List Element). stepsOf l) (are ∙ strided-none access (m .vb) sound (m .z) h)))
+
+    pub steps-apart : access .size < access .gap → stepsOf (elements m (Strided f)) ≡ length (elements m (Strided f))
+    steps-apart g =
+        ap (λ (l : List Element). stepsOf l) are
+        ∙ strided-apart access (m .vb) sound (m .z) (o .long-z) W L most top inside g
+        ∙ sym (ap length are ∙ strided-count access (m .vb) sound (m .z))
 
     strided-sizes : Sizes m (Strided f)
     strided-sizes =
-        let some : 1 ≤ sizeOf (classFor (Strided f)) = omega (arith, eight .1) in
+        two (access .size) (access .gap)
+        (λ g.
+        let n : length (elements m (Strided f)) ≡ count = ap length are ∙ strided-count access (m .vb) sound (m .z) in
+        let l : 2 ≤ access .gap = omega (arith, some) in
+        let k : count ≤ 512 = omega (arith, reaches, mul-le-mul-left count l) in
+        let j : suc (access .size) ≤ access .gap = omega arith in
+        let b : count * access .size + count ≤ 1024 = omega (arith, reaches, mul-le-mul-left count j, mul-suc count (access .size)) in
+        record {
+          most-runs = count;
+          most-bytes = count * access .size;
+          runs = omega (arith, runs-most (Strided f) a some space, steps-apart g, n);
+          bytes = bytes-count;
+          few = k;
+          small = omega arith;
+          short = omega arith;
+        })
+        (λ g.
+        let e : access .gap ≡ access .size = omega (arith, sound .size) in
         record {
           most-runs = 1;
           most-bytes = 1024;
-          runs = omega (arith, runs-most (Strided f) a some space, one-run);
-          bytes = omega (arith, bytes-all (Strided f) a some space, strided-bytes);
+          runs = omega (arith, runs-most (Strided f) a some space, steps-joined e);
+          bytes = omega (arith, bytes-count, reaches, ap (λ (n : ℕ). count * n) e);
           few = omega arith;
           small = omega arith;
           short = omega arith;
-        }
+        })
 
   pub sizes : (s : Store) → refused s ≡ false → (W L : ℕ) → L ≤ 65536 → W + L ≤ 2 ^ 64 → InWindow W L (elements m s)
       → InSpace (elements m s) → Sizes m s
@@ -182,7 +225,7 @@ pub record Effect (m : Machine) (W L word : ℕ) : Type 0 where
   pub window : windowOk W L ≡ true
   pub inside : InWindow W L (elementsFor m (decodeOf word))
   pub within : Within (effectFor m word)
-  pub short : length (patchFor m word) ≤ 1040
+  pub short : length (patchFor m word) ≤ 6660
 
 pub effect : (f : Flags) (m : Machine) (W L word : ℕ) → DoneOver f m W L word → Effect m W L word
 unfolding patchOf maxRuns maxBytes
@@ -207,6 +250,6 @@ effect f m W L word d =
             small = omega (arith, z .bytes, z .small);
           });
       short =
-          subst (λ (xs : List Element). length (encode (netEffect xs)) ≤ 1040) (sym q)
+          subst (λ (xs : List Element). length (encode (netEffect xs)) ≤ 6660) (sym q)
           (omega (arith, length-encode (netEffect (elements m s)), z .runs, z .bytes, z .short));
     }

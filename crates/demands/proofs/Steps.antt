@@ -1,18 +1,16 @@
 -- Document 02 (iv): the steps of a store. Assumes nothing.
-use mathlib.Core.Path.{_≡_, refl, sym, ap, _∙_}
+use mathlib.Core.Path.{_≡_, refl, ap, _∙_}
 use mathlib.Core.Option.{none}
 use Prim.Native.Nat.{ℕ, zero, suc, _+_, _≤_, _<_}
 use mathlib.Core.Bool.{Bool, false}
 use mathlib.Core.List.{List, []}
 use native.Mathlib.Omega.{arith}
-use Rattle.encoding.specs.declared.Store.{Store}
 use Rattle.writes.specs.Elements.{Element, stepsFrom, stepsOf}
 use Rattle.writes.proofs.Counting.{steps-length}
-use Rattle.elements.specs.Machine.{Machine}
 use Rattle.elements.specs.Stores.{countOf}
 use Rattle.elements.specs.Elements.{activeAt, elementAt, actives, elements}
-use Rattle.accesses.proofs.Stretches.{actives-off}
-use Rattle.accesses.proofs.Joined.{listed, Consecutive, actives-listed, steps-listed}
+use Rattle.accesses.proofs.Actives.{actives-off}
+use Rattle.accesses.proofs.Spacing.{listed, Consecutive, actives-listed, steps-listed}
 use Rattle.demands.specs.Steps.{StepsCounted}
 use Rattle.demands.proofs.Effects.{runs-within}
 

@@ -10,7 +10,7 @@ use Rattle.encoding.specs.Answers.{decodedNumbers}
 use Rattle.encoding.specs.Classes.{classes}
 use Rattle.encoding.specs.Decoding.{decodeOf}
 use Rattle.encoding.specs.Encoding.{classFor}
-use Rattle.encoding.specs.Statements.{DecodesItsClass, UndefinedOutside, OneClass, ScatterWidths}
+use Rattle.encoding.specs.Statements.{DecodesItsClass, UndefinedOutside, OneClass, ScatterWidths, StridedWidths}
 use Rattle.encoding.specs.Statements.{EncodesDecoded, DecodesEncoded, RefusedForACause, NumbersFromBits}
 use Rattle.encoding.specs.declared.Decoded.the-variants as D
 use Rattle.encoding.specs.declared.Encoded.the-variants as E
@@ -182,11 +182,12 @@ abbrev pub CodecReturns : Type 0
 CodecReturns = (decodedNumbers D.Undefined ≡ replicate 8 0) × (encodedAnswers E.Fields ≡ replicate 5 0)
 
 pub record Demand2 : Type 0 where
-  -- "Decoding accepts exactly the twelve classes of document 01", of which document 02 (i) says: "Demand 2 now reads twenty-four
-  -- classes": a word belongs to a class by its bits, to no two of them
-  pub twenty-four : length classes ≡ 24
-  -- (i)'s twelve are "the pattern of classes 1 to 7" at two more widths
+  -- "Decoding accepts exactly the twelve classes of document 01", of which document 02 says: "Demand 2 now reads twenty-four classes" (i),
+  -- "demand 2 reads thirty-six classes" (vii): a word belongs to a class by its bits, to no two of them
+  pub thirty-six : length classes ≡ 36
+  -- (i)'s twelve are "the pattern of classes 1 to 7" at two more widths, (vii)'s twelve "the forms of 8 to 11" at three more
   pub scatter-widths : ScatterWidths
+  pub strided-widths : StridedWidths
   pub accepts : DecodesItsClass
   pub no-others : UndefinedOutside
   pub one-class : OneClass

@@ -99,14 +99,15 @@ WhateverFilling =
     → length mem ≡ length mem₁ → HasRoom m word buffer ↔ HasRoom m word buffer₁ → v ≡ v₁
 
 -- "A done store also has a patch": the encoding of its net effect, which is within the sizes; a call on any filling, in any buffer with
--- room, hands out that string, and none hands out another; "the largest of one store 1,040"
+-- room, hands out that string, and none hands out another; "the largest store patch is 6,660 bytes" (document
+-- 02 (vii); 1,040 in document 01)
 abbrev pub HasAPatch : Type 0
 HasAPatch =
     (f : Flags) (m : Machine) (W L word : ℕ) → DoneOver f m W L word
     → (s : List ℕ)
     × Bytes s
     × PatchOf (effectFor m word) s
-    × (length s ≤ 1040)
+    × (length s ≤ 6660)
     × ((mem buffer : List ℕ) → Filling L mem → length s ≤ length buffer → HandsOut f m W mem word buffer s)
     × ((mem buffer t : List ℕ) → Filling L mem → HandsOut f m W mem word buffer t → t ≡ s)
 
@@ -169,7 +170,8 @@ pub record Demand3 : Type 0 where
   pub whatever-window : WhateverWindow
   pub judges-alike : JudgesAlike
   pub equal-lookups : EqualLookups
-  -- "The string's length is 4, plus 12 for each run, plus the payload bytes."; "The largest patch has 1,796 bytes" (document 01)
+  -- "The string's length is 4, plus 12 for each run, plus the payload bytes." (document 01); "the largest valid patch 7,172" (document
+  -- 02 (vii))
   pub encoding-length : EncodingLength
   pub largest-patch : LargestPatch
   -- "Each such set has one encoding, and no two sets share one."

@@ -4,3 +4,4 @@ pub mod Demand2
 pub mod Demand3
 -- and the sentences of document 02 that aren't theirs
 pub mod Steps
+pub mod Spacing

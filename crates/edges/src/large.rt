@@ -42,14 +42,14 @@ fn fill(s: &mut [u8], at: usize, len: usize, b: u8)
 
 // n runs of len bytes each from 2000h on with gaps of one, and a trailer.
 pub(crate) fn runs(s: &mut [u8], n: usize, len: usize)
-    requires { ⌜ (n ≤ 65) × (len ≤ 16) ⌝ }
+    requires { ⌜ (n ≤ 513) × (len ≤ 2) ⌝ }
 {
     let mut at = 0;
     let mut start = 0x2000;
     let mut k = 0;
     while k < n {
         head(s, at, start, len);
-        fill(s, at + 12, len, k as u8);
+        fill(s, at + 12, len, (k % 256) as u8);
         at = at + 12 + len;
         start = start + len as u64 + 1;
         k += 1;

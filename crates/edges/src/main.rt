@@ -202,18 +202,18 @@ fn in_order() {
 
 // The largest patch; one run more, and one byte more.
 fn largest() {
-    let mut s = [0u8; 1796];
-    large::runs(&mut s, 64, 16);
+    let mut s = [0u8; 7172];
+    large::runs(&mut s, 512, 2);
     judged(b"largest", &s);
-    let mut m = [0u8; 1088];
+    let mut m = [0u8; 1536];
     applied(b"largest", 0x2000, &mut m, &s);
     address(large::sum(&m), b"h is the sum of the window's bytes\n");
 }
 
 fn too_large() {
-    let mut more = [0u8; 849];
-    large::runs(&mut more, 65, 1);
-    judged(b"65 runs", &more);
+    let mut more = [0u8; 6673];
+    large::runs(&mut more, 513, 1);
+    judged(b"513 runs", &more);
     let mut long = [0u8; 1041];
     large::one(&mut long);
     judged(b"1,025 bytes", &long);

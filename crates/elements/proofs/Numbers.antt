@@ -14,13 +14,9 @@ use Rattle.encoding.specs.Encoding.{numberOf, classNumbered, classFor, refused}
 use Rattle.encoding.specs.Layouts.{numberIn}
 use Rattle.encoding.specs.declared.Number.{Number}
 use Rattle.encoding.specs.declared.Store.{Store}
-use Rattle.encoding.specs.declared.Store.the-variants.{Strided}
-use Rattle.encoding.specs.declared.StridedFields.{StridedFields}
 use Rattle.encoding.proofs.Statements.{class-numbered}
 use Rattle.elements.specs.Machine.{Machine, baseOf, indexOf, register}
-use Rattle.elements.specs.Stores.{stepOf, sizeOf, strideOf, startOf}
-use Rattle.elements.specs.Accesses.{stridedAccess, stridedOf}
-use Rattle.elements.specs.declared.StridedAccess.{StridedAccess}
+use Rattle.elements.specs.Stores.{stepOf, startOf}
 
 -- VB·8/esize elements are VB over the bytes of one
 pub per-is : (vb : ℕ) (c : Class) → c .esize / 8 * 8 ≡ c .esize → vb / stepOf c ≡ vb * 8 / c .esize
@@ -34,30 +30,6 @@ number-is s e x n q = q ∙ ap (λ (c : Class). numberIn c x) (class-numbered s 
 -- by the number that was read
 pub pers : (vb : ℕ) (c : Class) → c .esize / 8 * 8 ≡ c .esize → (n : ℕ) → n ≡ stepOf c → vb / n ≡ vb * 8 / c .esize
 pers vb c w n e = ap (λ (y : ℕ). vb / y) e ∙ per-is vb c w
-
--- a strided access by its parts is the store's
-pub strided-whole : (m : Machine) (f : StridedFields) → stepOf (classFor (Strided f)) ≡ 8
-    → classFor (Strided f) .esize / 8 * 8 ≡ classFor (Strided f) .esize → (vb start low high : ℕ) → m .vb ≡ vb
-    → start ≡ stridedAccess m (classFor (Strided f)) f .start → low ≡ stridedAccess m (classFor (Strided f)) f .low
-    → high ≡ stridedAccess m (classFor (Strided f)) f .high
-    → stridedOf (classFor (Strided f)) f vb start low high ≡ stridedAccess m (classFor (Strided f)) f
-strided-whole m f o w vb start low high v qs ql qh =
-    let c = classFor (Strided f) in
-    let per = ap (λ (y : ℕ). y / 8) (sym v) ∙ pers (m .vb) c w 8 (sym o) in
-    let e : _≡_ {A = StridedAccess} _ (stridedAccess m c f) =
-    λ i.
-    record {
-      start = qs i;
-      low = ql i;
-      high = qh i;
-      step = stepOf c;
-      size = sizeOf c;
-      per = per i;
-      nreg = c .nreg;
-      first = f .first;
-      stride = strideOf c;
-    } in
-    e
 
 -- ---- a strided store's first address
 

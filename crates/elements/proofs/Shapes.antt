@@ -16,7 +16,7 @@ use Rattle.encoding.specs.Classes.{Zm, imm4, xs, Field, size, Class, classes, c
 use Rattle.encoding.specs.declared.Feature.{Feature}
 use Rattle.encoding.specs.declared.Feature.the-variants.{SVE, SME2, SVE2p1}
 use Rattle.encoding.specs.Decoding.{ztOf}
-use Rattle.encoding.specs.Encoding.{Value, _is_, numbersIn, immOf, rowFor, classFor, refused, misextends}
+use Rattle.encoding.specs.Encoding.{Value, _is_, lowest, numbersIn, immOf, rowFor, classFor, refused, misextends}
 use Rattle.encoding.specs.declared.Extension.{Extension}
 use Rattle.encoding.specs.declared.Extension.the-variants.{None, Uxtw, Sxtw}
 use Rattle.encoding.specs.declared.ScatterFields.{ScatterFields}
@@ -31,7 +31,7 @@ use Rattle.encoding.proofs.Inverse.{named-parts}
 use Rattle.encoding.proofs.Signed.{named-small}
 use Rattle.encoding.proofs.Statements.{accepted}
 use Rattle.elements.specs.Stores.{stepOf, sizeOf, strideOf}
-use Rattle.elements.specs.Accesses.{offsetBytes, otherStep, isWidth}
+use Rattle.elements.specs.Accesses.{offsetBytes, otherStep, isWidth, exponentOf}
 
 -- ---- the classes of a feature
 
@@ -49,8 +49,9 @@ shape SME2 c =
     ∷ ltb 0 (c .nreg)
     ∷ eqb (c .nreg * strideOf c) 16
     ∷ leb (2 ^ width c (ztOf c)) (strideOf c)
-    ∷ eqb (stepOf c) 8
-    ∷ eqb (sizeOf c) 8
+    ∷ eqb (stepOf c) (2 ^ exponentOf c)
+    ∷ eqb (sizeOf c) (2 ^ exponentOf c)
+    ∷ ltb (exponentOf c) 4
     ∷ []
 shape SVE2p1 c = eqb (stepOf c * 8) (c .esize) ∷ eqb (c .nreg) 1 ∷ eqb (stepOf c) 16 ∷ eqb (sizeOf c) 16 ∷ []
 
@@ -58,7 +59,7 @@ shaped : Class → Bool
 shaped c = every (λ b. b) (shape (c .feature) c)
 
 all-shaped : T (every shaped classes)
-unfolding every shaped shape classes any has
+unfolding every shaped shape classes any has lowest
 all-shaped = tt
 
 -- the i-th of these tests
@@ -204,8 +205,9 @@ pub record StridedIn (f : StridedFields) (c : Class) : Type 0 where
   pub small : Small c
   pub nreg : 0 < c .nreg
   pub eight : c .esize / 8 * 8 ≡ c .esize
-  pub step : stepOf c ≡ 8
-  pub size : sizeOf c ≡ 8
+  pub step : stepOf c ≡ 2 ^ exponentOf c
+  pub size : sizeOf c ≡ 2 ^ exponentOf c
+  pub exponent : exponentOf c < 4
   pub registers : c .nreg * strideOf c ≡ 16
   pub first : f .first / 16 < 2
   pub zt : f .first % 16 < strideOf c
@@ -234,8 +236,9 @@ strided-in f e =
       eight = eqb→eq (stepOf c * 8) (c .esize) (t 0 (lit< tt));
       nreg = ltb→lt 0 (c .nreg) (t 1 (lit< tt));
       registers = eqb→eq (c .nreg * strideOf c) 16 (t 2 (lit< tt));
-      step = eqb→eq (stepOf c) 8 (t 4 (lit< tt));
-      size = eqb→eq (sizeOf c) 8 (t 5 (lit< tt));
+      step = eqb→eq (stepOf c) (2 ^ exponentOf c) (t 4 (lit< tt));
+      size = eqb→eq (sizeOf c) (2 ^ exponentOf c) (t 5 (lit< tt));
+      exponent = ltb→lt (exponentOf c) 4 (t 6 (lit< tt));
       first = in-places c C.T high (ltb→lt high (2 ^ width c C.T) (p .0));
       zt = omega (arith, ltb→lt low zt (p .1), leb→le zt (strideOf c) (t 3 (lit< tt)));
     }

@@ -1,12 +1,13 @@
 -- A store's numbers, decided once before its elements are walked. For the contracts of the code's own functions. Assumes nothing.
-use Prim.Native.Nat.{ℕ, zero, suc, _+_, _-_, _*_, _/_, _%_, _^_, _≤_, _<_}
+use Prim.Native.Nat.{ℕ, _+_, _-_, _*_, _/_, _%_, _^_, _≤_, _<_}
 use mathlib.Core.Bool.{Bool, true, cond, _&&_, _||_}
 use mathlib.Core.Logic.{_⊎_}
 use mathlib.Core.Path.{_≡_}
-use mathlib.Core.List.{List, [], _++_}
+use mathlib.Core.List.{List}
 use lib.Dec.{eqb, ltb, leb}
 use lib.ListN.{take, drop}
 use Rattle.encoding.specs.Classes.{Class}
+use Rattle.encoding.specs.Layouts.{exponent}
 use Rattle.encoding.specs.declared.Extension.{Extension}
 use Rattle.encoding.specs.declared.Extension.the-variants.{None, Uxtw, Sxtw}
 use Rattle.encoding.specs.declared.ScatterFields.{ScatterFields}
@@ -15,10 +16,11 @@ use Rattle.encoding.specs.declared.QuadwordFields.{QuadwordFields}
 use Rattle.endian.specs.LittleEndian.{leVal}
 use Rattle.writes.specs.Elements.{Element}
 use Rattle.elements.specs.Machine.{Machine, baseOf, indexOf, register, bitAt}
-use Rattle.elements.specs.Counter.{counterOf, unitOf, countIn}
+use Rattle.elements.specs.Counter.{counterOf, lowestSet, unitOf, countIn}
 use Rattle.elements.specs.Stores.{stepOf, sizeOf, perRegister, signed32, strideOf, startOf}
 use Rattle.elements.specs.Elements.{actives}
 use Rattle.elements.specs.declared.VectorAccess.{VectorAccess}
+use Rattle.elements.specs.declared.Range.{Range}
 use Rattle.elements.specs.declared.StridedAccess.{StridedAccess}
 
 -- ---- scatter and quadword stores: an offset in each element of a vector register
@@ -76,64 +78,79 @@ quadwordAccess m c f =
       stored = f .zt;
     }
 
--- ---- doublewords under a counter: those that are active are one stretch
+-- ---- elements under a counter: the mask bits that can be set, and so the elements that can be active, lie at equal distances
 
--- how many have their mask bit below the count
-unfoldable pub borderOf : ℕ → ℕ → ℕ
-borderOf vb v = (countIn vb v * unitOf v + 7) / 8
+-- the power of 2 that an element's bytes are, and the one that the distance is: the higher of that and the counter's unit's. `x + (y - x)`
+-- is the higher of two numbers, `x - (x - y)` the lower.
+abbrev pub exponentOf : Class → ℕ
+exponentOf c = exponent (sizeOf c)
 
--- by the border, the first of n that is active, and the one behind the last; both are 0 where none is. `x - (x - y)` is the lower of
--- two numbers.
+abbrev pub spacing : ℕ → ℕ → ℕ
+spacing x v = x + (lowestSet v - x)
+
+-- with a distance of 2^g bytes: how many from the first on have their mask bit below the count
+unfoldable pub borderOf : ℕ → ℕ → ℕ → ℕ
+borderOf vb v g = (countIn vb v * unitOf v + (2 ^ g - 1)) / 2 ^ g
+
+-- by the border, the first of n that is active, and the one behind the last; both are 0 where none is
 unfoldable pub lowOf : ℕ → ℕ → ℕ → ℕ
 lowOf v border n = cond (eqb (v % 16) 0) 0 (cond (ltb v (2 ^ 15)) 0 (border - (border - n)))
 
 unfoldable pub highOf : ℕ → ℕ → ℕ → ℕ
 highOf v border n = cond (eqb (v % 16) 0) 0 (cond (ltb v (2 ^ 15)) (border - (border - n)) n)
 
--- ---- strided stores
+-- the active ones of n registers under a counter, with a distance of 2^g bytes
+unfoldable pub rangeOf : ℕ → ℕ → ℕ → ℕ → Range
+rangeOf vb v g n =
+    record {
+      low = lowOf v (borderOf vb v g) (n * (vb / 2 ^ g));
+      high = highOf v (borderOf vb v g) (n * (vb / 2 ^ g));
+      gap = 2 ^ g;
+      per = vb / 2 ^ g;
+    }
+
+-- of a store
+abbrev pub rangeFor : Machine → Class → StridedFields → Range
+rangeFor m c f = rangeOf (m .vb) (counterOf m (f .pc)) (spacing (exponentOf c) (counterOf m (f .pc))) (c .nreg)
+
+-- ---- strided stores: the elements that lie `gap` bytes apart, counted by k
 
 unfoldable pub stridedAddress : StridedAccess → ℕ → ℕ
-stridedAddress s e = (s .start + e * s .step) % 2 ^ 64
-
-unfoldable pub stridedActive : StridedAccess → ℕ → Bool
-stridedActive s e = leb (s .low) e && ltb e (s .high)
+stridedAddress s k = (s .start + k * s .gap) % 2 ^ 64
 
 unfoldable pub stridedElement : StridedAccess → ℕ → List ℕ → ℕ → Element
-stridedElement s vb z e =
+stridedElement s vb z k =
     record {
-      number = e;
-      address = stridedAddress s e;
-      bytes = take (s .size) (drop (e % s .per * s .step) (register vb z (s .first + e / s .per * s .stride)));
+      number = k * s .gap / s .size;
+      address = stridedAddress s k;
+      bytes = take (s .size) (drop (k % s .per * s .gap) (register vb z (s .first + k / s .per * s .stride)));
+    }
+
+-- which of them are active
+unfoldable pub between : StridedAccess → ℕ → Bool
+between s k = leb (s .low) k && ltb k (s .high)
+
+-- whether the element is, whose first byte is the i-th of all registers' bytes
+unfoldable pub stridedActive : StridedAccess → ℕ → Bool
+stridedActive s i = eqb (i % s .gap) 0 && between s (i / s .gap)
+
+-- by its first address and its range
+abbrev pub stridedOf : Class → StridedFields → ℕ → Range → StridedAccess
+stridedOf c f start r =
+    record {
+      start = start;
+      low = r .low;
+      high = r .high;
+      gap = r .gap;
+      size = sizeOf c;
+      per = r .per;
+      nreg = c .nreg;
+      first = f .first;
+      stride = strideOf c;
     }
 
 abbrev pub stridedAccess : Machine → Class → StridedFields → StridedAccess
-stridedAccess m c f =
-    record {
-      start = startOf m c (f .rn) (f .rm) (f .multiple) % 2 ^ 64;
-      low = lowOf (counterOf m (f .pc)) (borderOf (m .vb) (counterOf m (f .pc))) (c .nreg * perRegister m c);
-      high = highOf (counterOf m (f .pc)) (borderOf (m .vb) (counterOf m (f .pc))) (c .nreg * perRegister m c);
-      step = stepOf c;
-      size = sizeOf c;
-      per = perRegister m c;
-      nreg = c .nreg;
-      first = f .first;
-      stride = strideOf c;
-    }
-
--- by its first address and its range; doublewords are VB/8 a register
-abbrev pub stridedOf : Class → StridedFields → ℕ → ℕ → ℕ → ℕ → StridedAccess
-stridedOf c f vb start low high =
-    record {
-      start = start;
-      low = low;
-      high = high;
-      step = stepOf c;
-      size = sizeOf c;
-      per = vb / 8;
-      nreg = c .nreg;
-      first = f .first;
-      stride = strideOf c;
-    }
+stridedAccess m c f = stridedOf c f (startOf m c (f .rn) (f .rm) (f .multiple) % 2 ^ 64) (rangeFor m c f)
 
 -- ---- the active elements of an access
 
@@ -141,16 +158,7 @@ unfoldable pub vectorElements : VectorAccess → List ℕ → List ℕ → List 
 vectorElements v offsets governing stored = actives (vectorActive v governing) (vectorElement v offsets stored) (v .count) 0
 
 unfoldable pub stridedElements : StridedAccess → ℕ → List ℕ → List Element
-stridedElements s vb z = actives (stridedActive s) (stridedElement s vb z) (s .nreg * s .per) 0
-
--- the bytes of n elements from number e on, one after the other
-unfoldable pub bytesFrom : (ℕ → Element) → ℕ → ℕ → List ℕ
-bytesFrom el zero e = []
-bytesFrom el (suc n) e = el e .bytes ++ bytesFrom el n (suc e)
-
--- the bytes of a strided store's active elements
-unfoldable pub stridedBytes : StridedAccess → ℕ → List ℕ → List ℕ
-stridedBytes s vb z = bytesFrom (stridedElement s vb z) (s .high - s .low) (s .low)
+stridedElements s vb z = actives (between s) (stridedElement s vb z) (s .nreg * s .per) 0
 
 -- an offset's element has 8 bytes, or else 16 where the offset is the whole element, and 4 where it is extended
 abbrev pub otherStep : Extension → ℕ
@@ -158,10 +166,11 @@ otherStep None = 16
 otherStep Uxtw = 4
 otherStep Sxtw = 4
 
--- what holds of an access on a machine with registers of vb bytes
 -- how many bytes an element can have in memory
 abbrev pub isWidth : ℕ → Bool
 isWidth n = eqb n 8 || (eqb n 1 || (eqb n 16 || (eqb n 4 || eqb n 2)))
+
+-- what holds of an access on a machine with registers of vb bytes
 
 pub record VectorSound (v : VectorAccess) (vb : ℕ) : Type 0 where
   pub scale : v .scale < 64
@@ -183,11 +192,9 @@ pub record VectorSound (v : VectorAccess) (vb : ℕ) : Type 0 where
 pub record StridedSound (s : StridedAccess) (vb : ℕ) : Type 0 where
   pub order : s .low ≤ s .high
   pub most : s .high ≤ s .nreg * s .per
-  pub packed : s .step ≡ s .size
-  pub wide : 8 ≤ s .step
   pub some : 0 < s .size
-  pub size : s .size ≤ s .step
-  pub whole : s .per * s .step ≤ vb
+  pub size : s .size ≤ s .gap
+  pub whole : s .per * s .gap ≡ vb
   pub per : 0 < s .per
   pub nreg : s .nreg ≤ 4
   pub high : vb ≤ 256

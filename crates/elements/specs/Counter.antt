@@ -7,7 +7,7 @@ use Rattle.encoding.specs.Encoding.{lowest}
 use Rattle.endian.specs.LittleEndian.{leVal}
 use Rattle.elements.specs.Machine.{Machine, predicate}
 
--- "Classes 8 to 11 use P register 8 + Pc as a counter." A counter is its register's low 16 bits.
+-- "Classes 8 to 11 use P register 8 + Pc as a counter.", and so do 25 to 36 (document 02 (vii)). A counter is its register's low 16 bits.
 abbrev pub counterOf : Machine → ℕ → ℕ
 counterOf m pc = leVal (take 2 (predicate m (8 + pc)))
 

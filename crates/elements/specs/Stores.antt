@@ -35,7 +35,8 @@ countOf m s = classFor s .nreg * perRegister m (classFor s)
 
 -- ---- activity
 
--- "element e is active when bit e·esize/8 is 1"; "Element r·(VB/8) + e is active when its bit at 8 times that number is set."
+-- "element e is active when bit e·esize/8 is 1"; "Element r·(VB/8) + e is active when its bit at 8 times that number is set.", and of
+-- narrower strided elements (document 02 (vii)): "an element's mask bit is its number times those bytes", the element's
 abbrev pub activeIn : Machine → Class → Store → ℕ → Bool
 activeIn m c (Scatter f) e = bitAt (predicate m (f .pg)) (e * stepOf c)
 activeIn m c (Strided f) e = maskBit (m .vb) (counterOf m (f .pc)) (e * stepOf c)
@@ -61,12 +62,13 @@ abbrev pub strideOf : Class → ℕ
 strideOf c = cond (eqb (c .nreg) 2) 8 4
 
 -- "Strided: base plus X[m]·8, or base plus imm4·nreg·VB with imm4 signed": the multiple is imm4·nreg, and
--- `ofZ w64` is a small signed number modulo 2^64
+-- `ofZ w64` is a small signed number modulo 2^64. "The scalar index and the step from element to element are the element's bytes"; "the
+-- immediate displacement is unchanged" (document 02 (vii)).
 abbrev pub startOf : Machine → Class → ℕ → ℕ → ℤ → ℕ
 startOf m c rn rm multiple = baseOf m rn + cond (has c Rm) (indexOf m rm * 2 ^ c .scale) (ofZ w64 (multiple *ℤ pos (m .vb)))
 
 -- "all modulo 2^64. Classes 1 to 7: base plus offset times 2^scale", and 13 to 24 (document 02 (i)); "Class 12: 64-bit element 2e of Zn
--- plus X[m]"; strided "then 8 more for each element, active or not"
+-- plus X[m]"; strided "then 8 more for each element, active or not", or the element's bytes ((vii))
 abbrev pub addressIn : Machine → Class → Store → ℕ → ℕ
 addressIn m c (Scatter f) e =
     (baseOf m (f .rn) + offsetOf (f .extension) (elementIn (vector m (f .zm)) (stepOf c) e) * 2 ^ c .scale) % 2 ^ 64

@@ -14,7 +14,7 @@ ghost use Rattle.elements.specs.Machine.{machine, register, bitAt};
 ghost use Rattle.elements.specs.Stores.{signed32, startOf};
 ghost use Rattle.elements.specs.Accesses.{scatterAccess, quadwordAccess, stridedOf};
 ghost use Rattle.elements.specs.Accesses.{offsetBytes, offsetFrom, addressFrom, vectorAddress, vectorActive};
-ghost use Rattle.elements.specs.Accesses.{stridedAddress, stridedActive};
+ghost use Rattle.elements.specs.Accesses.{stridedActive};
 use encoding::Extension;
 use encoding::Number;
 use encoding::QuadwordFields;
@@ -38,13 +38,14 @@ pub struct VectorAccess {
     pub stored: usize,
 }
 
-// A strided store: its first address, its active elements, from `low` up to `high`, bytes from element to element, bytes to move,
-// elements a register, and its registers: the first, their number, and the distance from one to the next.
+// A strided store. Of its elements those can be active that lie `gap` bytes apart, the larger of an element's bytes and the counter's
+// unit: its first address, the active ones of them, from `low` up to `high`, their distance and their bytes, how many of them a register
+// has, and its registers: their number, the first, and the distance from one to the next.
 pub struct StridedAccess {
     pub start: u64,
     pub low: usize,
     pub high: usize,
-    pub step: usize,
+    pub gap: usize,
     pub size: usize,
     pub per: usize,
     pub nreg: usize,
@@ -52,10 +53,12 @@ pub struct StridedAccess {
     pub stride: usize,
 }
 
-// The elements from `low` up to `high`.
+// Of the elements that lie `gap` bytes apart, `per` in a register: those from `low` up to `high`.
 pub struct Range {
     pub low: usize,
     pub high: usize,
+    pub gap: usize,
+    pub per: usize,
 }
 
 // Elements and bytes, counted where they are written.
@@ -162,19 +165,20 @@ pub fn lower(x: usize, y: usize) -> usize
     y
 }
 
-// Whether element e of a strided store is active.
-pub fn strided_active(s: StridedAccess, e: usize) -> bool
-    ensures { λ r. ⌜ r ≡ stridedActive s e ⌝ }
+// Whether the element of a strided store is active whose first byte is the i-th of its registers' bytes.
+pub fn strided_active(s: StridedAccess, i: usize) -> bool
+    requires { ⌜ 0 < s .gap ⌝ }
+    ensures { λ r. ⌜ r ≡ stridedActive s i ⌝ }
 {
-    (s.low <= e) & (e < s.high)
+    let k = i / s.gap;
+    (i % s.gap == 0) & ((s.low <= k) & (k < s.high))
 }
 
-// The address of element e of a strided store.
-pub fn strided_address(s: StridedAccess, e: usize) -> u64
-    requires { ⌜ e * s .step < 0x10000 ⌝ }
-    ensures { λ r. ⌜ r ≡ stridedAddress s e ⌝ }
+// The address i bytes behind the first of a strided store.
+pub fn strided_address(s: StridedAccess, i: usize) -> u64
+    ensures { λ r. ⌜ r ≡ (s .start + i) % 2 ^ 64 ⌝ }
 {
-    std::num::wrapping_add_u64(s.start, (e * s.step) as u64)
+    std::num::wrapping_add_u64(s.start, i as u64)
 }
 
 // base + z * unit, modulo 2^64.
@@ -254,21 +258,20 @@ fn stride_of(nreg: u32) -> usize
 }
 
 // A strided store's access, by its first address and its range. The callers find those two, so that this is little and inlined.
-pub fn strided_access(f: StridedFields, start: u64, range: Range, vb: usize) -> StridedAccess
+pub fn strided_access(f: StridedFields, start: u64, range: Range) -> StridedAccess
     requires { ⌜ refused (Store.Strided f) ≡ false ⌝ }
-    ensures { λ r. ⌜ r ≡ stridedOf (classFor (Store.Strided f)) f vb start (range .low) (range .high) ⌝ }
+    ensures { λ r. ⌜ r ≡ stridedOf (classFor (Store.Strided f)) f start range ⌝ }
 {
     let nreg = encoding::number_for(f.class, Number::Nreg);
-    let step = encoding::number_for(f.class, Number::Step) as usize;
     let size = encoding::number_for(f.class, Number::Size) as usize;
     let stride = stride_of(nreg);
     StridedAccess {
         start,
         low: range.low,
         high: range.high,
-        step,
+        gap: range.gap,
         size,
-        per: vb / 8,
+        per: range.per,
         nreg: nreg as usize,
         first: f.first as usize,
         stride,

@@ -7,14 +7,14 @@ use native.Mathlib.Omega.{arith}
 use lib.Dec.{T, ltb, ltb→lt, lt→ltb}
 use lib.ListN.{length}
 use borrow.Author.Tests.{leb-false, not-false}
-use Rattle.encoding.specs.Classes.{Class, classes, classAt, belongs, maskOf}
+use Rattle.encoding.specs.Classes.{Class, classes, classAt, any, belongs, maskOf, has}
 use Rattle.encoding.specs.declared.Feature.{Feature}
 use Rattle.encoding.specs.Decoding.{storeAs, storeOf, indexOf, decodeOf}
 use Rattle.encoding.specs.Encoding.{numberOf, featureOf, rowNumbered, classNumbered, rowFor, classFor, notListed, outOfRange}
 use Rattle.encoding.specs.Encoding.{lacked, unnamed, misextended, refused, placed, valuesIn, encodeOf}
 use Rattle.encoding.specs.Answers.{decodedNumber, encodedNumber}
 use Rattle.encoding.specs.Statements.{DecodesItsClass, UndefinedOutside, OneClass, MaskIsMembership, RefusedForACause}
-use Rattle.encoding.specs.Statements.{EncodesDecoded, DecodesEncoded, ScatterWidths}
+use Rattle.encoding.specs.Statements.{EncodesDecoded, DecodesEncoded, ScatterWidths, StridedWidths}
 use Rattle.encoding.specs.declared.Store.{Store}
 use Rattle.encoding.specs.declared.Decoded.{Decoded}
 use Rattle.encoding.specs.declared.Decoded.the-variants.{Known, Undefined}
@@ -91,6 +91,13 @@ scatter-widths zero l h = absurd (omega (arith, l))
 scatter-widths (suc zero) l h = refl
 scatter-widths (suc (suc zero)) l h = refl
 scatter-widths (suc (suc (suc w))) l h = absurd (omega (arith, h))
+
+pub strided-widths : StridedWidths
+unfolding classes classAt any has
+strided-widths zero h = refl
+strided-widths (suc zero) h = refl
+strided-widths (suc (suc zero)) h = refl
+strided-widths (suc (suc (suc w))) h = absurd (omega (arith, h))
 
 pub mask-is-membership : MaskIsMembership
 mask-is-membership k w h l = ((λ e. yes (belongs (classAt k) w) (masked k h w e)), (λ b. unmasked k h w l (holds b)))

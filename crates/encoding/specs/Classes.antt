@@ -65,7 +65,8 @@ index Zt2 = 11
 -- ---- the table
 
 -- a class's feature is the flag that it needs (document 01, verdict 4): "SVE for 1..7, SME2 for 8..11, SVE2p1 for 12"; of 13 to 24
--- (document 02 (i)): "All need the SVE flag". Its number among the flags, in document 01's order, by which two are compared:
+-- (document 02 (i)): "All need the SVE flag"; of 25 to 36 ((vii)): "All need SME2". Its number among the flags, in document 01's order, by
+-- which two are compared:
 abbrev pub flag : Feature → ℕ
 flag SVE = 0
 flag SME2 = 1
@@ -88,7 +89,9 @@ class n b fs e m s r x = record { number = n; base = b; fields = fs; esize = e; 
 -- "3 in classes 1 and 3, otherwise 0" for classes 1 to 7; strided stores scale X[m] by 8, which is 3 too. Behind it document 02's (i):
 -- "Add ST1H as classes 13 to 18 and ST1W as 19 to 24, scalar plus vector, each in this order: unpacked scaled and unscaled, 64-bit
 -- scaled and unscaled, and the .S forms scaled and unscaled. They are the pattern of classes 1 to 7 with bits 24..23 as 01 or 10 and
--- bits 22..21 as 00 (.D unscaled), 01 (.D scaled), 10 (.S unscaled), 11 (.S scaled); the scale is 1 or 2."
+-- bits 22..21 as 00 (.D unscaled), 01 (.D scaled), 10 (.S unscaled), 11 (.S scaled); the scale is 1 or 2." And (vii)'s: "Add the
+-- strided ST1B, ST1H and ST1W as classes 25 to 28, 29 to 32 and 33 to 36, each with the forms of 8 to 11 in that order, with bits 14..13
+-- as 00, 01, 10"; "The scalar index and the step from element to element are the element's bytes".
 unfoldable pub classes : List Class
 classes =
     class 1 0xE5A08000 (Zm ∷ xs ∷ Pg ∷ Rn ∷ Zt ∷ []) 64 64 3 1 SVE
@@ -115,6 +118,18 @@ classes =
     ∷ class 22 0xE500A000 (Zm ∷ Pg ∷ Rn ∷ Zt ∷ []) 64 32 0 1 SVE
     ∷ class 23 0xE5608000 (Zm ∷ xs ∷ Pg ∷ Rn ∷ Zt ∷ []) 32 32 2 1 SVE
     ∷ class 24 0xE5408000 (Zm ∷ xs ∷ Pg ∷ Rn ∷ Zt ∷ []) 32 32 0 1 SVE
+    ∷ class 25 0xA1200000 (Rm ∷ Pc ∷ Rn ∷ T ∷ Zt3 ∷ []) 8 8 0 2 SME2
+    ∷ class 26 0xA1208000 (Rm ∷ Pc ∷ Rn ∷ T ∷ Zt2 ∷ []) 8 8 0 4 SME2
+    ∷ class 27 0xA1600000 (imm4 ∷ Pc ∷ Rn ∷ T ∷ Zt3 ∷ []) 8 8 0 2 SME2
+    ∷ class 28 0xA1608000 (imm4 ∷ Pc ∷ Rn ∷ T ∷ Zt2 ∷ []) 8 8 0 4 SME2
+    ∷ class 29 0xA1202000 (Rm ∷ Pc ∷ Rn ∷ T ∷ Zt3 ∷ []) 16 16 1 2 SME2
+    ∷ class 30 0xA120A000 (Rm ∷ Pc ∷ Rn ∷ T ∷ Zt2 ∷ []) 16 16 1 4 SME2
+    ∷ class 31 0xA1602000 (imm4 ∷ Pc ∷ Rn ∷ T ∷ Zt3 ∷ []) 16 16 0 2 SME2
+    ∷ class 32 0xA160A000 (imm4 ∷ Pc ∷ Rn ∷ T ∷ Zt2 ∷ []) 16 16 0 4 SME2
+    ∷ class 33 0xA1204000 (Rm ∷ Pc ∷ Rn ∷ T ∷ Zt3 ∷ []) 32 32 2 2 SME2
+    ∷ class 34 0xA120C000 (Rm ∷ Pc ∷ Rn ∷ T ∷ Zt2 ∷ []) 32 32 2 4 SME2
+    ∷ class 35 0xA1604000 (imm4 ∷ Pc ∷ Rn ∷ T ∷ Zt3 ∷ []) 32 32 0 2 SME2
+    ∷ class 36 0xA160C000 (imm4 ∷ Pc ∷ Rn ∷ T ∷ Zt2 ∷ []) 32 32 0 4 SME2
     ∷ []
 
 -- what stands past the end of the list: no class, with no fields

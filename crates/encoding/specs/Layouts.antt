@@ -9,7 +9,7 @@ use Rattle.encoding.specs.declared.Feature.{Feature}
 use Rattle.encoding.specs.declared.Feature.the-variants.{SVE, SME2, SVE2p1}
 use Rattle.encoding.specs.declared.Layout.{Layout}
 use Rattle.encoding.specs.declared.Number.{Number}
-use Rattle.encoding.specs.declared.Number.the-variants.{Nreg, RmValues, Step, Size, Scale}
+use Rattle.encoding.specs.declared.Number.the-variants.{Nreg, RmValues, Step, Size, Exponent, Scale}
 
 abbrev pub layoutOf : Class → Layout
 layoutOf c =
@@ -21,20 +21,21 @@ layoutOf c =
       zt = 2 ^ width c (ztOf c);
     }
 
+-- the power of 2 that a number up to 16 is
+abbrev pub exponent : ℕ → ℕ
+exponent n = lowest (λ v. leb n (2 ^ v)) 5
+
 abbrev pub numberIn : Class → Number → ℕ
 numberIn c Nreg = c .nreg
 numberIn c RmValues = 2 ^ width c Rm
 numberIn c Step = c .esize / 8
 numberIn c Size = c .msize / 8
+numberIn c Exponent = exponent (c .msize / 8)
 numberIn c Scale = c .scale
 
 -- hexadecimal digit k of a number, counted from the right
 abbrev pub digitAt : ℕ → ℕ → ℕ
 digitAt x k = x / 2 ^ (4 * k) % 16
-
--- the power of 2 that a number up to 16 is
-abbrev pub exponent : ℕ → ℕ
-exponent n = lowest (λ v. leb n (2 ^ v)) 5
 
 -- the feature, nreg, the widths of four fields, esize/8 and msize/8 as powers of 2, the scale, and in two digits the class's number
 unfoldable pub packedOf : Class → ℕ

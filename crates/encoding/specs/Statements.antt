@@ -12,7 +12,7 @@ use Rattle.encoding.specs.Classes.{Zm, Rm, imm4, xs, T, Zt3, Class, clas
 use Rattle.encoding.specs.Decoding.{storeOf, decodeOf}
 use Rattle.encoding.specs.Answers.{decodedNumber, decodedNumbers, encodedNumber}
 use Rattle.encoding.specs.Encoding.{classFor, notListed, outOfRange, lacked, unnamed, misextended, encodeOf}
-use Rattle.encoding.specs.declared.Feature.the-variants.{SVE}
+use Rattle.encoding.specs.declared.Feature.the-variants.{SVE, SME2}
 use Rattle.encoding.specs.declared.Store.{Store}
 use Rattle.encoding.specs.declared.Decoded.the-variants.{Known}
 use Rattle.encoding.specs.declared.Encoded.the-variants.{Word}
@@ -51,6 +51,25 @@ ScatterWidths =
     ∷ atWidth (classAt 3) (10 + 6 * w) w 0
     ∷ atWidth (classAt 5) (11 + 6 * w) w 3
     ∷ atWidth (classAt 5) (12 + 6 * w) w 2
+    ∷ []
+
+-- a strided class of another width: bits 14..13 are w, its elements have 8·2^w bits in their register and in memory, and a scalar index
+-- is scaled by w
+abbrev pub stridedAtWidth : Class → ℕ → ℕ → Class
+stridedAtWidth c n w =
+    class n (c .base / 2 ^ 15 * 2 ^ 15 + w * 2 ^ 13 + c .base % 2 ^ 13) (c .fields) (8 * 2 ^ w) (8 * 2 ^ w) (cond (has c Rm) w 0) (c .nreg)
+    SME2
+
+-- document 02 (vii): "Add the strided ST1B, ST1H and ST1W as classes 25 to 28, 29 to 32 and 33 to 36, each with the forms of 8 to 11 in
+-- that order, with bits 14..13 as 00, 01, 10." ST1B is w 0, from row 24 on.
+abbrev pub StridedWidths : Type 0
+StridedWidths =
+    (w : ℕ) → w ≤ 2
+    → take 4 (drop (24 + 4 * w) classes)
+    ≡ stridedAtWidth (classAt 7) (25 + 4 * w) w
+    ∷ stridedAtWidth (classAt 8) (26 + 4 * w) w
+    ∷ stridedAtWidth (classAt 9) (27 + 4 * w) w
+    ∷ stridedAtWidth (classAt 10) (28 + 4 * w) w
     ∷ []
 
 -- the test by mask is the paper's membership, for every 32-bit word

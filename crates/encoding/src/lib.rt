@@ -96,6 +96,7 @@ pub enum Number {
     RmValues,
     Step,
     Size,
+    Exponent,
     Scale,
 }
 

@@ -10,7 +10,7 @@ use super::Feature;
 use super::Layout;
 use super::Number;
 
-pub const CLASSES: usize = 24;
+pub const CLASSES: usize = 36;
 
 // The fixed bits of each class, and what they are: a mask and the base word.
 const ROWS: [[u32; 2]; CLASSES] = [
@@ -38,6 +38,18 @@ const ROWS: [[u32; 2]; CLASSES] = [
     [0xFFE0E000, 0xE500A000],
     [0xFFE0A000, 0xE5608000],
     [0xFFE0A000, 0xE5408000],
+    [0xFFE0E008, 0xA1200000],
+    [0xFFE0E00C, 0xA1208000],
+    [0xFFF0E008, 0xA1600000],
+    [0xFFF0E00C, 0xA1608000],
+    [0xFFE0E008, 0xA1202000],
+    [0xFFE0E00C, 0xA120A000],
+    [0xFFF0E008, 0xA1602000],
+    [0xFFF0E00C, 0xA160A000],
+    [0xFFE0E008, 0xA1204000],
+    [0xFFE0E00C, 0xA120C000],
+    [0xFFF0E008, 0xA1604000],
+    [0xFFF0E00C, 0xA160C000],
 ];
 
 // What code needs of each class besides, by the hexadecimal digits of a number: its feature, nreg, how many bits its fields xs, Rm, imm4
@@ -67,6 +79,18 @@ const PACKED: [u64; CLASSES] = [
     0x0_1_0_0_0_0_3_2_0_16,
     0x0_1_1_0_0_0_2_2_2_17,
     0x0_1_1_0_0_0_2_2_0_18,
+    0x1_2_0_5_0_3_0_0_0_19,
+    0x1_4_0_5_0_2_0_0_0_1A,
+    0x1_2_0_0_4_3_0_0_0_1B,
+    0x1_4_0_0_4_2_0_0_0_1C,
+    0x1_2_0_5_0_3_1_1_1_1D,
+    0x1_4_0_5_0_2_1_1_1_1E,
+    0x1_2_0_0_4_3_1_1_0_1F,
+    0x1_4_0_0_4_2_1_1_0_20,
+    0x1_2_0_5_0_3_2_2_2_21,
+    0x1_4_0_5_0_2_2_2_2_22,
+    0x1_2_0_0_4_3_2_2_0_23,
+    0x1_4_0_0_4_2_2_2_0_24,
 ];
 
 // The row in the table of the class that the word belongs to; CLASSES where it belongs to none.
@@ -174,6 +198,7 @@ pub(crate) fn number_at(k: usize, number: Number) -> u32
         Number::RmValues => power(n, 7),
         Number::Step => power(n, 4),
         Number::Size => power(n, 3),
+        Number::Exponent => digit(n, 3),
         Number::Scale => digit(n, 2),
     }
 }

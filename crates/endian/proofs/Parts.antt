@@ -1,10 +1,10 @@
 -- A part of a list, also one that was lent and came back. Assumes nothing.
 use mathlib.Core.Path.{_≡_, sym, ap, ap₂, _∙_}
-use mathlib.Core.List.{List, [], _++_, append-nil, append-assoc}
+use mathlib.Core.List.{List, _++_, append-assoc}
 use Prim.Native.Nat.{ℕ, _+_, _-_, _≤_, _<_}
 use native.Mathlib.Nat.{add-sub-cancel-left}
 use native.Mathlib.Omega.{arith}
-use lib.ListN.{length, take, drop, length-take, length-drop, length-append, getD, take-append-drop, drop-of-length-le, List·getD-append}
+use lib.ListN.{length, take, drop, length-take, length-drop, length-append, getD, take-append-drop, List·getD-append}
 use lib.Seq.{drop-drop, take-at, drop-at, length-take-le, getD-take, getD-drop, getD-append-add}
 use Rattle.endian.specs.Overwriting.{overwritten}
 
@@ -43,15 +43,6 @@ over-join m at q r h =
     ∙ ap (drop (length r)) (drop-at (take at m ++ q) (drop t m) t lp) ∙ drop-drop (length r) t m in
     let w : t + length r ≡ at + length (q ++ r) = omega (arith, length-append q r) in
     ap₂ (λ (x y : List ℕ). x ++ (r ++ y)) e1 (e2 ∙ ap (λ (z : ℕ). drop z m) w) ∙ simp append-assoc
-
--- nothing, and all
-pub over-none : (m : List ℕ) (at : ℕ) → overwritten m at [] ≡ m
-unfolding overwritten
-over-none m at = let w : at + 0 ≡ at = omega arith in ap (λ (k : ℕ). take at m ++ drop k m) w ∙ take-append-drop at m
-
-pub over-all : (m p : List ℕ) → length p ≡ length m → overwritten m 0 p ≡ p
-unfolding overwritten
-over-all m p q = ap (λ (l : List ℕ). p ++ l) (drop-of-length-le m {i = 0 + length p} (omega arith)) ∙ append-nil p
 
 -- ---- its length, and its bytes before, in and behind the part
 

@@ -2,7 +2,10 @@
 use mathlib.Core.Path.{_≡_, refl, sym, ap, ap₂, _∙_}
 use mathlib.Core.Bool.{Bool, true, false, not, cond, _&&_}
 use mathlib.Core.List.{List}
-use Prim.Native.Nat.{ℕ, _+_, _*_, _/_, _%_, _≤_, _<_}
+use Prim.Native.Nat.{ℕ, zero, suc, _+_, _*_, _/_, _%_, _^_, _≤_, _<_}
+use native.Mathlib.Nat.{zero-mul, mul-mod-left, mul-div-cancel, mul-div-mul-right}
+use native.Mathlib.Omega.{arith}
+use lib.Arith.{mod-mul}
 use lib.Dec.{eqb}
 use lib.ListN.{length}
 use borrow.Author.Tests.{eq-eqb, ne-eqb, lt-ltb, le-ltb}
@@ -17,14 +20,14 @@ use Rattle.endian.specs.LittleEndian.{Bytes}
 use Rattle.writes.specs.Elements as W
 use Rattle.endian.proofs.Order.{two}
 use Rattle.elements.specs.Machine.{Machine, register}
-use Rattle.elements.specs.Stores.{countOf}
-use Rattle.elements.specs.Accesses.{vectorActive, vectorAddress, vectorElement, stridedActive, stridedAddress, stridedElement}
+use Rattle.elements.specs.Stores.{stepOf, sizeOf, perRegister, strideOf, countOf}
+use Rattle.elements.specs.Accesses.{vectorActive, vectorAddress, vectorElement, stridedActive}
 use Rattle.elements.specs.Accesses.{scatterAccess, quadwordAccess, stridedAccess}
 use Rattle.elements.specs.declared.VectorAccess.{VectorAccess}
 use Rattle.elements.specs.declared.StridedAccess.{StridedAccess}
 use Rattle.elements.proofs.Shapes.{ScatterIn, QuadwordIn, StridedIn}
 use Rattle.accesses.proofs.Listing.{scatter-count, scatter-active, scatter-element, quadword-count, quadword-active, quadword-element}
-use Rattle.accesses.proofs.Listing.{strided-active, strided-element}
+use Rattle.accesses.proofs.Listing.{strided-whole, strided-active, strided-address}
 use Rattle.verdicts.specs.Verdicts.{lengthOk, registersOk}
 use Rattle.inspection.specs.Inspection.{counted, inspectedAt, inspectedFor, inspectedOf}
 use Rattle.inspection.specs.Steps.{vectorInspected, stridedInspected}
@@ -54,26 +57,28 @@ module _ (v : VectorAccess) (vb : ℕ) (z p : List ℕ) (e : ℕ) where
       ∙ found e (v .count) _ _ _ _ h
 
 module _ (s : StridedAccess) (vb e : ℕ) where
+  abbrev count : ℕ
+  count = s .nreg * (vb / s .size)
+
   -- the element's first byte in the Z buffer
   abbrev index : ℕ
-  index = (s .first + e / s .per * s .stride) * vb + e % s .per * s .step
+  index = (s .first + e * s .size / vb * s .stride) * vb + e * s .size % vb
 
-  pub strided-past : s .nreg * s .per ≤ e → Past (s .nreg * s .per) ≡ stridedInspected s vb e
+  pub strided-past : count ≤ e → Past count ≡ stridedInspected s vb e
   unfolding stridedInspected
-  strided-past h = past e (s .nreg * s .per) _ _ _ _ h
+  strided-past h = past e count _ _ _ _ h
 
-  pub strided-found : (active : Bool) (address : ℕ) → e < s .nreg * s .per → active ≡ stridedActive s e → address ≡ stridedAddress s e
-      → Element active address index (s .size) (s .nreg * s .per) ≡ stridedInspected s vb e
+  pub strided-found : (active : Bool) (address : ℕ) → e < count → active ≡ stridedActive s (e * s .size)
+      → address ≡ (s .start + e * s .size) % 2 ^ 64 → Element active address index (s .size) count ≡ stridedInspected s vb e
   unfolding stridedInspected
   strided-found active address h r q =
-      ap₂ (λ (b : Bool) (a : ℕ). Element b a index (s .size) (s .nreg * s .per)) r q
-      ∙ found e (s .nreg * s .per) _ _ _ _ h
+      ap₂ (λ (b : Bool) (a : ℕ). Element b a index (s .size) count) r q ∙ found e count _ _ _ _ h
 
 -- ---- a store's element is its access's
 
-counted-same : (e : ℕ) {n n′ a a′ : ℕ} {b b′ : Bool} (index size : ℕ) → n ≡ n′ → b ≡ b′ → a ≡ a′
-    → counted e n b a index size ≡ counted e n′ b′ a′ index size
-counted-same e index size q r s = λ i. counted e (q i) (r i) (s i) index size
+counted-same : (e : ℕ) {n n′ a a′ index index′ : ℕ} {b b′ : Bool} (size : ℕ) → n ≡ n′ → b ≡ b′ → a ≡ a′ → index ≡ index′
+    → counted e n b a index size ≡ counted e n′ b′ a′ index′ size
+counted-same e size q r s t = λ i. counted e (q i) (r i) (s i) (t i) size
 
 module _ (m : Machine) (e : ℕ) where
   pub scatter-inspected : (f : ScatterFields) → ScatterIn f (classFor (Scatter f)) → Bytes (m .z)
@@ -81,24 +86,42 @@ module _ (m : Machine) (e : ℕ) where
   unfolding inspectedAt vectorInspected vectorElement
   scatter-inspected f s b =
       let a = ap (λ (y : W.Element). y .address) (scatter-element m b f s e) in
-      sym (counted-same e _ _ (scatter-count m f s) (scatter-active m f s e) a)
+      sym (counted-same e _ (scatter-count m f s) (scatter-active m f s e) a refl)
 
   pub quadword-inspected : (f : QuadwordFields) → QuadwordIn f (classFor (Quadword f))
       → vectorInspected (quadwordAccess m (classFor (Quadword f)) f) (m .vb) (m .z) (m .p) e ≡ inspectedAt m (Quadword f) e
   unfolding inspectedAt vectorInspected vectorElement
   quadword-inspected f s =
       let a = ap (λ (y : W.Element). y .address) (quadword-element m f s e) in
-      sym (counted-same e _ _ (quadword-count m f s) (quadword-active m f s e) a)
+      sym (counted-same e _ (quadword-count m f s) (quadword-active m f s e) a refl)
 
-  pub strided-inspected : (f : StridedFields) → StridedIn f (classFor (Strided f))
+  pub strided-inspected : (f : StridedFields) → StridedIn f (classFor (Strided f)) → 16 ≤ m .vb → m .vb % 16 ≡ 0
       → stridedInspected (stridedAccess m (classFor (Strided f)) f) (m .vb) e ≡ inspectedAt m (Strided f) e
-  unfolding inspectedAt stridedInspected stridedElement
-  strided-inspected f s =
+  unfolding inspectedAt stridedInspected
+  strided-inspected f s low sixteen =
+      let c = classFor (Strided f) in
+      let k = sizeOf c in
+      let p = perRegister m c in
       let n = countOf m (Strided f) in
-      let a = ap (λ (y : W.Element). y .address) (strided-element m f s e) in
+      let w : p * k ≡ m .vb = strided-whole m f s sixteen in
+      let o : 0 < k = s .small .size .0 in
+      let many : p ≡ m .vb / k = sym (ap (λ (y : ℕ). y / k) (sym w) ∙ mul-div-cancel p o) in
+      let h : 0 < p = some p k (omega arith) in
+      let row : e / p ≡ e * k / m .vb = sym (ap (λ (y : ℕ). e * k / y) (sym w) ∙ mul-div-mul-right e p o) in
+      let column : e % p * stepOf c ≡ e * k % m .vb =
+      ap (λ (y : ℕ). e % p * y) (s .step ∙ sym (s .size))
+      ∙ sym
+      (ap (λ (y : ℕ). e * k % y) (sym w) ∙ mod-mul (e * k) h o
+      ∙ omega (arith, mul-mod-left e k, ap (λ (y : ℕ). y % p * k) (mul-div-cancel e o))) in
+      let index = ap₂ (λ (y x : ℕ). (f .first + y * strideOf c) * m .vb + x) row column in
+      let count = ap (λ (y : ℕ). c .nreg * y) many in
       two e n
-      (λ h. sym (counted-same e _ _ refl (strided-active m f s e h) a))
-      (λ h. sym (past e n _ _ _ _ h) ∙ past e n _ _ _ _ h)
+      (λ l. sym (counted-same e k count (strided-active m f s sixteen e l) (strided-address m f s sixteen e) index))
+      (λ l. sym (past e _ _ _ _ _ (omega (arith, count))) ∙ ap Past (sym count) ∙ past e n _ _ _ _ l)
+    where
+      some : (a b : ℕ) → 16 ≤ a * b → 0 < a
+      some zero b l = absurd (omega (arith, zero-mul b))
+      some (suc a) b l = omega arith
 
 -- ---- refusals in their order
 

@@ -62,18 +62,18 @@ fn inspect_strided(s: StridedAccess, vb: usize, e: u64) -> Inspected
     requires { ⌜ StridedSound s vb ⌝ }
     ensures { λ r. ⌜ r ≡ stridedInspected s vb e ⌝ }
 {
-    let count = (s.nreg * s.per) as u64;
+    let count = (s.nreg * (vb / s.size)) as u64;
     if count <= e {
         return Inspected::Past { count };
     }
-    let at = e as usize;
-    let register = s.first + at / s.per * s.stride;
+    let at = e as usize * s.size;
+    let register = s.first + at / vb * s.stride;
     let active = elements::strided_active(s, at);
     let address = elements::strided_address(s, at);
     Inspected::Element {
         active,
         address,
-        index: (register * vb + at % s.per * s.step) as u64,
+        index: (register * vb + at % vb) as u64,
         size: s.size as u64,
         count,
     }
@@ -98,7 +98,7 @@ fn inspect_store(
         Store::Strided(f) => {
             let start = elements::start_of(f, vb, x, sp);
             let range = counters::range_for(f, vb, p);
-            inspect_strided(elements::strided_access(f, start, range, vb), vb, e)
+            inspect_strided(elements::strided_access(f, start, range), vb, e)
         }
         Store::Quadword(f) => inspect_vector(elements::quadword_access(f, vb, x), vb, z, p, e),
     }

@@ -39,8 +39,8 @@ unfoldable pub floorOf : ℕ → ℕ → ℕ
 floorOf zero last = 0
 floorOf (suc k) last = last + 2
 
--- "0 to 64 runs; lengths at least 1, together at most 1,024; starts ascend; at least one unwritten address between one run and the
--- next; no run passes 2^64"
+-- "0 to 64 runs", since document 02 (vii) "0 to 512 runs"; "lengths at least 1, together at most 1,024; starts ascend; at least one
+-- unwritten address between one run and the next; no run passes 2^64"
 unfoldable pub admits : Cursor → ℕ → ℕ → Bool
 unfolding floorOf
 admits c start n =

@@ -3,7 +3,7 @@ ghost use mathlib.Core.Path.{_≡_};
 ghost use Rattle.reading.specs.Reader.{headAt, admits, stepAt, readAt};
 ghost use Rattle.reading.specs.Stops.{stopOf, reading};
 
-pub const MAX_RUNS: usize = 64;
+pub const MAX_RUNS: usize = 512;
 
 pub const MAX_BYTES: usize = 1024;
 

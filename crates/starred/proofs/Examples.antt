@@ -61,12 +61,12 @@ unfolding classes classAt position any everyBelow inside belongs has storeOf ind
     lengthOk registersOk firstOutside decided verdictOf stepsFrom
 counted = refl
 
-largest-due : NoneDue streaming largest 0x1000 1024 0xA160E000
+largest-due : NoneDue streaming largest 0x1000 1023 0xA1608000
 unfolding classes classAt position any everyBelow inside belongs has multipleOf storeOf indexOf decodeOf rowOf leVal windowOk inWindow
     lowestSet lowest highest countIn maskBit activeAt elementAt actives elements lengthOk registersOk firstOutside
 largest-due = (refl, (refl, (refl, (refl, (refl, (refl, (refl, tt)))))))
 
-largest-length : length (patchFor largest 0xA160E000) ≡ 1040
+largest-length : length (patchFor largest 0xA1608000) ≡ 6660
 unfolding classes classAt position any everyBelow inside belongs has multipleOf storeOf indexOf decodeOf rowOf leVal lowestSet lowest
     highest countIn maskBit activeAt elementAt actives elements patchOf spliceAll splice below from writesAt encode encodeRuns runsThen
     runThen trailer runs join leBytes

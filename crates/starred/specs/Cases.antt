@@ -101,7 +101,7 @@ top = 0xFC ∷ 0xEF ∷ 0xFF ∷ 0xFF ∷ 0xFF ∷ 0xFF ∷ 0xFF ∷ 0xFF ∷ re
 -- ---- the table
 
 -- a word on a machine with a window of zeros, and what decoding, the verdict, the memory and the count of P8 as a counter must be. The
--- patch buffer has 1,040 bytes, "the largest of one store".
+-- patch buffer has 1,040 bytes, "the largest of one store" in document 01, which is room for each of these.
 pub record Case : Type 0 where
   pub word : ℕ
   pub flags : Flags
@@ -160,6 +160,10 @@ cases =
     ∷ case 0xE4E1C000 plain (on low 0 0) 0x0FF0 4 (scatter 17 Sxtw) (Done 1 2 18 1) (placedAt 4 0 (take 2 (rows 0))) 0
     -- the "64-bit scaled" form of words: 2000000000000001h times 4
     ∷ case 0xE521A000 plain (on high 0 0) 0x1004 4 (scatter 21 None) (Refused (Fault 0 0x8000000000001004)) (replicate 4 0) 0
+    -- document 02 (vii): "A byte store under a halfword counter writes every second byte": 000Ah counts two, bytes 0 and 2
+    ∷ case 0xA1600000 streaming (on zeros 0x0A 0x00) 0x1000 4 (strided 27 (pos 0) 0) (Done 2 2 30 2) (1 ∷ 0 ∷ 3 ∷ 0 ∷ []) 2
+    -- a halfword store under a byte counter, one stretch: 0007h counts three bytes, so two halfwords
+    ∷ case 0xA1602000 streaming (on zeros 0x07 0x00) 0x1000 4 (strided 31 (pos 0) 0) (Done 2 4 20 1) (take 4 (rows 0)) 3
     ∷ []
 
 -- ---- what the definitions say

@@ -53,9 +53,10 @@ pub record WholeExample : Type 0 where
   pub idle-done : DoneOver plain idle 0x1000 0 word
   pub idle-patch : Hands idle 0 (0x50 ∷ 0x45 ∷ 0 ∷ 0 ∷ [])
 
--- "the largest of one store 1,040": class 11 with all 128 elements active (counter 8008h in P8), VB 256
+-- "A byte store under a halfword counter writes every second byte, so 512 runs can occur"; "the largest store patch is 6,660 bytes"
+-- (document 02 (vii)): class 28 at VB 256 with all of its counter's elements active (8002h in P8)
 abbrev pub largest : Machine
-largest = machine 256 (0x1000 ∷ replicate 30 0) 0 (replicate 8192 0) (replicate 256 0 ++ (0x08 ∷ 0x80 ∷ replicate 254 0))
+largest = machine 256 (0x1000 ∷ replicate 30 0) 0 (replicate 8192 0) (replicate 256 0 ++ (0x02 ∷ 0x80 ∷ replicate 254 0))
 
 abbrev pub LargestStorePatch : Type 0
-LargestStorePatch = DoneOver streaming largest 0x1000 1024 0xA160E000 × (length (patchFor largest 0xA160E000) ≡ 1040)
+LargestStorePatch = DoneOver streaming largest 0x1000 1023 0xA1608000 × (length (patchFor largest 0xA1608000) ≡ 6660)

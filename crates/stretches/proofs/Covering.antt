@@ -30,11 +30,11 @@ among-yes : (s n x : ℕ) → s ≤ x → x < s + n → among s n x ≡ true
 unfolding among
 among-yes s n x h k = simp (le-ltb x s h, lt-ltb x (s + n) k)
 
-among-low : (s n x : ℕ) → x < s → among s n x ≡ false
+pub among-low : (s n x : ℕ) → x < s → among s n x ≡ false
 unfolding among
 among-low s n x h = simp (lt-ltb x s h)
 
-among-high : (s n x : ℕ) → s + n ≤ x → among s n x ≡ false
+pub among-high : (s n x : ℕ) → s + n ≤ x → among s n x ≡ false
 unfolding among
 among-high s n x h = simp (le-ltb x s (omega arith), le-ltb x (s + n) h)
 

@@ -1,16 +1,17 @@
-// Strided stores from verdict 7 on. The active elements lie side by side, so that memory is tested as a whole and the patch has one
-// run, or none where nothing is active.
+// Strided stores from verdict 7 on. The active elements lie side by side, or all at one larger distance: memory is tested as a whole, and
+// the patch has one run, or one for each of them.
 ghost use mathlib.Core.Path.{_≡_};
 ghost use mathlib.Core.Bool.{true};
 ghost use mathlib.Core.List.{List, []};
 ghost use mathlib.Core.Option.{none};
-ghost use Prim.Native.Nat.{ℕ, _+_, _*_, _<_};
+ghost use Prim.Native.Nat.{ℕ, _*_, _≤_, _<_};
 ghost use lib.ListN.{length};
 ghost use Rattle.window.specs.Window.{windowOk};
 ghost use Rattle.elements.specs.Accesses.{StridedSound, stridedElements};
 ghost use Rattle.verdicts.specs.Verdicts.{firstOutside};
 ghost use Rattle.outcomes.specs.Steps.{StoredOf};
 ghost use Rattle.strided.specs.Searching.{SearchedAs};
+ghost use Rattle.strided.specs.Runs.{runCount, runSize};
 use elements::StridedAccess;
 use verdicts::Refusal;
 use verdicts::Verdict;
@@ -28,16 +29,17 @@ fn walk(s: StridedAccess, vb: usize, base: u64, room: u64) -> Search
 {
     let high = s.high;
     let size = s.size as u64;
-    let mut e = s.low;
-    while e < high {
-        let address = elements::strided_address(s, e);
+    let mut k = s.low;
+    while k < high {
+        let at = k * s.gap;
+        let address = elements::strided_address(s, at);
         if !window::inside(base, room, address, size) {
             return Search::Outside {
-                element: e as u64,
+                element: (at / s.size) as u64,
                 address,
             };
         }
-        e += 1;
+        k += 1;
     }
     Search::Inside
 }
@@ -52,8 +54,13 @@ fn find_outside(s: StridedAccess, vb: usize, base: u64, room: u64) -> Search
     if high <= low {
         return Search::Inside;
     }
-    let bytes = ((high - low) * s.size) as u64;
-    if window::inside(base, room, elements::strided_address(s, low), bytes) {
+    let bytes = (high - 1 - low) * s.gap + s.size;
+    if window::inside(
+        base,
+        room,
+        elements::strided_address(s, low * s.gap),
+        bytes as u64,
+    ) {
         return Search::Inside;
     }
     walk(s, vb, base, room)
@@ -80,6 +87,28 @@ fn store_none(base: u64, memory: &[u8], patch: &mut [u8]) -> Verdict
     }
 }
 
+// How many runs there are, and how many bytes each has: one for all where elements lie side by side, else one for each of them.
+struct Runs {
+    count: usize,
+    size: usize,
+}
+
+fn runs_of(s: StridedAccess, n: usize) -> Runs
+    requires { ⌜ n * s .size ≤ 1024 ⌝ }
+    ensures { λ r. ⌜ (r .count ≡ runCount s n) × (r .size ≡ runSize s n) ⌝ }
+{
+    if s.gap == s.size {
+        return Runs {
+            count: 1,
+            size: n * s.size,
+        };
+    }
+    Runs {
+        count: n,
+        size: s.size,
+    }
+}
+
 // Elements that all lie in the window: room, memory, patch.
 fn finish(
     s: StridedAccess,
@@ -97,16 +126,17 @@ fn finish(
         ⌜ StoredOf base (s .size) (now (memory .entry)) (now (patch .entry)) (stridedElements s vb (now (z .entry))) r
         (now (memory .exit)) (now (patch .exit)) ⌝ }
 {
-    let bytes = (s.high - s.low) * s.size;
-    if patch.len() < bytes + 16 {
+    let runs = runs_of(s, s.high - s.low);
+    let count = runs.count;
+    let size = runs.size;
+    if patch.len() < count * (12 + size) + 4 {
         return Verdict::Refused {
             refusal: Refusal::NoRoom,
         };
     }
-    let at = (elements::strided_address(s, s.low) - base) as usize;
-    let to = at + bytes;
-    let counts = copying::copy_active(s, vb, z, &mut memory[at..to]);
-    let composed = cutting::compose_spaced(base, at, bytes, bytes, 1, memory, patch);
+    let at = (elements::strided_address(s, s.low * s.gap) - base) as usize;
+    let counts = copying::copy_active(s, vb, z, memory, at);
+    let composed = cutting::compose_spaced(base, at, s.gap, size, count, memory, patch);
     Verdict::Done {
         elements: counts.elements,
         bytes: counts.bytes,

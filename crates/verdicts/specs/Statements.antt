@@ -78,7 +78,8 @@ abbrev pub OneOfFive : ℕ → Type 0
 OneOfFive vb = (vb ≡ 16) ⊎ ((vb ≡ 32) ⊎ ((vb ≡ 64) ⊎ ((vb ≡ 128) ⊎ (vb ≡ 256))))
 
 -- "no class, or flag off: SVE for 1..7, SME2 for 8..11, SVE2p1 for 12": scatter, strided and quadword stores; document 02 (i), of 13
--- to 24, which are scatter stores: "All need the SVE flag and are illegal as classes 1 to 7 are."
+-- to 24, which are scatter stores: "All need the SVE flag and are illegal as classes 1 to 7 are."; (vii), of 25 to 36, which are strided:
+-- "All need SME2 and are illegal as classes 8 to 11 are"
 abbrev pub NoClassOrOff : Flags → Decoded → Type 0
 NoClassOrOff f D.Undefined = Unit {0}
 NoClassOrOff f (D.Known (Scatter g)) = f .sve ≡ false

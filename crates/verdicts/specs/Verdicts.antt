@@ -53,7 +53,7 @@ unfoldable pub registersOk : Machine → Bool
 registersOk m = eqb (length (m .z)) (32 * m .vb) && eqb (length (m .p)) (2 * m .vb)
 
 -- 4 undefined: "no class, or flag off: SVE for 1..7, SME2 for 8..11, SVE2p1 for 12"; document 02 (i), of 13 to 24: "All need the SVE
--- flag and are illegal as classes 1 to 7 are."
+-- flag and are illegal as classes 1 to 7 are."; (vii), of 25 to 36: "All need SME2 and are illegal as classes 8 to 11 are"
 abbrev pub flagOn : Flags → Feature → Bool
 flagOn f SVE = f .sve
 flagOn f SME2 = f .sme2
@@ -63,7 +63,7 @@ abbrev pub undefined : Flags → Decoded → Bool
 undefined f D.Undefined = true
 undefined f (D.Known s) = not (flagOn f (featureOf s))
 
--- 5 illegal: "1..7 and 12: streaming on and FA64 off; 8..11: streaming off"; 13 to 24 as 1 to 7
+-- 5 illegal: "1..7 and 12: streaming on and FA64 off; 8..11: streaming off"; 13 to 24 as 1 to 7, 25 to 36 as 8 to 11
 abbrev pub illegal : Flags → Feature → Bool
 illegal f SVE = f .streaming && not (f .fa64)
 illegal f SME2 = not (f .streaming)

@@ -87,6 +87,18 @@ const CLASSES: &[Class] = &[
     class("ST1W, 64-bit unscaled", SCATTER),
     class("ST1W, 32-bit scaled", EXTENDED),
     class("ST1W, 32-bit unscaled", EXTENDED),
+    strided("ST1B strided, two, scalar", SCALAR, 2),
+    strided("ST1B strided, four, scalar", SCALAR, 4),
+    strided("ST1B strided, two, immediate", IMMEDIATE, 2),
+    strided("ST1B strided, four, immediate", IMMEDIATE, 4),
+    strided("ST1H strided, two, scalar", SCALAR, 2),
+    strided("ST1H strided, four, scalar", SCALAR, 4),
+    strided("ST1H strided, two, immediate", IMMEDIATE, 2),
+    strided("ST1H strided, four, immediate", IMMEDIATE, 4),
+    strided("ST1W strided, two, scalar", SCALAR, 2),
+    strided("ST1W strided, four, scalar", SCALAR, 4),
+    strided("ST1W strided, two, immediate", IMMEDIATE, 2),
+    strided("ST1W strided, four, immediate", IMMEDIATE, 4),
 ];
 
 const EXTENSIONS: &[(&str, Option<Extension>)] =

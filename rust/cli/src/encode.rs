@@ -17,7 +17,7 @@ usage: starshackle encode [--json] NAME=VALUE...
 
 Shows the word of the store with these fields, or that there is none: fields (verdict 11).
 
-  class=N              the class by its number, 1 to 24
+  class=N              the class by its number, 1 to 36
   zm=N or rm=N         the vector or the general register of the offset, 0 to 31
   extension=E          uxtw or sxtw in classes 1, 2, 5, 6, 13, 14, 17 to 20, 23 and 24, none in the
                        others

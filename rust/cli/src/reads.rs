@@ -66,6 +66,18 @@ mod tests {
         (0xE500_A000, 0x001F_1FFF),
         (0xE560_8000, 0x001F_5FFF),
         (0xE540_8000, 0x001F_5FFF),
+        (0xA120_0000, 0x001F_1FF7),
+        (0xA120_8000, 0x001F_1FF3),
+        (0xA160_0000, 0x000F_1FF7),
+        (0xA160_8000, 0x000F_1FF3),
+        (0xA120_2000, 0x001F_1FF7),
+        (0xA120_A000, 0x001F_1FF3),
+        (0xA160_2000, 0x000F_1FF7),
+        (0xA160_A000, 0x000F_1FF3),
+        (0xA120_4000, 0x001F_1FF7),
+        (0xA120_C000, 0x001F_1FF3),
+        (0xA160_4000, 0x000F_1FF7),
+        (0xA160_C000, 0x000F_1FF3),
     ];
 
     /// What the model says of a store: its answer, memory, patch and elements.
@@ -80,7 +92,7 @@ mod tests {
     }
 
     impl Held {
-        /// With these every store is done, and each of its elements is active.
+        /// With these every store is done, and each of its registers has active elements.
         fn small(z: [u8; 32 * VB]) -> Held {
             let mut p = [0xFF; 2 * VB];
             p.iter_mut().skip(1).step_by(2).for_each(|byte| *byte = 0x7F);
@@ -159,6 +171,8 @@ mod tests {
             (0xE43F_3BED, "z13 z31 p6"),  // st1q { z13.q }, p6, [z31.d]
             (0xE4E1_C000, "x0 z0 z1 p0"), // st1h { z0.s }, p0, [x0, z1.s, sxtw #1]
             (0xE523_B7E7, "sp z3 z7 p5"), // st1w { z7.d }, p5, [sp, z3.d, lsl #2]
+            (0xA121_8000, "x0 x1 z0 z4 z8 z12 p8"), // st1b { .. }, pn8, [x0, x1]
+            (0xA16F_3C17, "x0 z23 z31 p15"), // st1h { .. }, pn15, [x0, #-2, mul vl]
         ];
         for (word, names) in cases {
             let registers = Known::decode(word).unwrap().registers();

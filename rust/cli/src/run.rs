@@ -34,18 +34,21 @@ A counter is the low 16 bits of its register. The lowest set one of its bits 0 t
 size, 8 to 64 bits; without one nothing is active. The bits above that one, up to bit log2(4 VB),
 which is 6 at VB 16 and 10 at VB 256, are the count: so many elements of that size, from the first
 on, are active, or with bit 15 set all others. The bits from there up to bit 14 are ignored.
+An element of the store is active where it starts with an active one of the counter's. So a counter
+of a wider size than the store's elements leaves those between inactive, and their bytes unwritten.
 
 ",
         store_help!(),
         "
 With --json the answer is an object. Its keys: word, verdict, verdict_name, class, class_name,
 fields, counter, assembly (as in `starshackle decode`), not_given (the note's registers),
-counter_means (the notes about the counter: register, value, element_size, count, inverted,
-highest_bit, ignored, which are the bits that are set and ignored), detail (of a fault: element, and
-address, which is that of its first byte outside the window, modulo 2^64), active_elements,
-bytes_moved, steps, elements (each with element, active, address, which is that of its first byte,
-bytes), window (address, length, memory). They are null where there is nothing to say. What has
-\"proved\": false in it is not proved.
+counter_means (the notes about the counter: register, value, element_size, store_element_size,
+every, which is 2 where every second element of the store starts one of the counter's, count,
+inverted, highest_bit, ignored, which are the bits that are set and ignored), detail (of a fault:
+element, and address, which is that of its first byte outside the window, modulo 2^64),
+active_elements, bytes_moved, steps, elements (each with element, active, address, which is that of
+its first byte, bytes), window (address, length, memory). They are null where there is nothing to
+say. What has \"proved\": false in it is not proved.
 
 Exit status: 0 done, 1 refused by the model, 2 bad usage, an unreadable file, or a register that is
 required and not given.
@@ -95,8 +98,9 @@ impl Answer {
         let elements = word.map_or(Vec::new(), |word| rows(&machine, word));
         let missing = Missing::of(word, &registers, &outcome);
         let (word, known) = (word.ok(), word.and_then(Known::decode).ok());
-        let counter = |known| Counter::of(known, &machine, elements.len());
-        let counter = known.as_ref().filter(|_| !elements.is_empty()).and_then(counter);
+        let counter = known.as_ref().zip(elements.first()).and_then(|(known, first)| {
+            Counter::of(known, &machine, elements.len(), first.element.bytes)
+        });
         Answer { word, known, outcome, missing, counter, elements, base, length, memory }
     }
 

@@ -19,7 +19,7 @@ what stands behind them. Whether it is a patch, and where it stops being one, is
 model's answer.
 
 A patch is a row of runs, then 50 45 and the number of runs in two bytes, and nothing behind it. A
-run is 50 52, its address in eight bytes, its length in two, and its bytes. There are at most 64
+run is 50 52, its address in eight bytes, its length in two, and its bytes. There are at most 512
 runs and 1,024 bytes in them; a run has at least one; addresses ascend, with at least one unwritten
 address between runs; no run passes the top of the address space. Numbers are little-endian.
 

@@ -32,6 +32,18 @@ fn says(words: &str, e: usize) -> bool {
     if let Some(only) = number("only element ", " is active") {
         return e == only;
     }
+    for (every, ordinal) in [(2, "second"), (4, "fourth"), (8, "eighth")] {
+        let start = format!("every {ordinal} element");
+        if words == format!("{start} is active") {
+            return e % every == 0;
+        }
+        if let Some(border) = number(&format!("{start} below "), " is active") {
+            return e % every == 0 && e < border;
+        }
+        if let Some(border) = number(&format!("{start} from "), " on is active") {
+            return e % every == 0 && e >= border;
+        }
+    }
     if let Some(border) = number("elements below ", " are active") {
         return e < border;
     }
@@ -45,6 +57,18 @@ fn says(words: &str, e: usize) -> bool {
     }
 }
 
+/// Words with an immediate of 0, and counter pn8: registers, and bytes of an element.
+const WORDS: [(&str, usize, usize); 8] = [
+    ("0xA1606000", 2, 8),
+    ("0xA160E000", 4, 8),
+    ("0xA1600000", 2, 1),
+    ("0xA1608000", 4, 1),
+    ("0xA1602000", 2, 2),
+    ("0xA160A000", 4, 2),
+    ("0xA1604000", 2, 4),
+    ("0xA160C000", 4, 4),
+];
+
 /// Numbers of 16 bits: few bits, all but few, and others.
 fn counters() -> Vec<u16> {
     let bits = (0..16).flat_map(|one| (0..=one).map(move |other| 1 << one | 1 << other));
@@ -55,10 +79,10 @@ fn counters() -> Vec<u16> {
 
 #[test]
 fn notes_agree_with_the_states() {
-    let mut said = [0; 4];
+    let mut said = [0; 5];
     for (vb, highest) in [16, 32, 64, 128, 256].into_iter().zip(6..) {
         for (number, counter) in counters().into_iter().enumerate() {
-            let word = ["0xA1606000", "0xA160E000"][number % 2];
+            let (word, registers, bytes) = WORDS[(number + vb / 16) % WORDS.len()];
             let machine = format!("vb = {vb}\nflags = sme2 streaming\npn8 = 0x{counter:04X}\n");
             let file = format!("word = {word}\n{machine}window = 0\nlength = 1024\n");
             let text = answer("counters-text", &[], &file);
@@ -67,8 +91,8 @@ fn notes_agree_with_the_states() {
             let of_counter = notes.iter().find(|note| note.starts_with("counter ")).unwrap();
             assert!(of_counter.starts_with(&format!("counter pn8 is 0x{counter:04X}: ")), "{text}");
             let (_, words) = of_counter.split_once(", so ").unwrap();
-            let (states, registers) = (states(&text), 2 + 2 * (number % 2));
-            assert_eq!(states.len(), registers * vb / 8, "{text}");
+            let states = states(&text);
+            assert_eq!(states.len(), registers * vb / bytes, "{text}");
             for (e, active) in states.iter().enumerate() {
                 assert_eq!(says(words, e), *active, "element {e}\n{text}");
             }
@@ -83,18 +107,23 @@ fn notes_agree_with_the_states() {
             assert_eq!(text.contains("are ignored"), told, "{text}");
             said[usize::from(has_size) + usize::from(told)] += 1;
             said[3] += usize::from(active > 0);
+            let wider = has_size && 1 << counter.trailing_zeros() > bytes;
+            let own = format!("the store's elements have {} bits: only every ", 8 * bytes);
+            assert_eq!(notes.iter().any(|note| note.starts_with(&own)), wider, "{text}");
+            said[4] += usize::from(wider && active > 1);
         }
     }
-    assert!(said.iter().all(|count| *count > 100), "{said:?}");
+    assert!(said.iter().all(|count| *count > 50), "{said:?}");
 }
 
 /// The numbers in JSON give the same states.
 #[test]
 fn json_agrees_with_the_states() {
     for vb in [16, 64, 256] {
-        for counter in counters() {
+        for (number, counter) in counters().into_iter().enumerate() {
+            let (word, _, bytes) = WORDS[number % WORDS.len()];
             let machine = format!("vb = {vb}\nflags = sme2 streaming\npn8 = 0x{counter:04X}\n");
-            let file = format!("word = 0xA160E000\n{machine}window = 0\nlength = 1024\n");
+            let file = format!("word = {word}\n{machine}window = 0\nlength = 1024\n");
             let json = answer("counters-json", &["--json"], &file);
             let means =
                 json.split_once("\"counter_means\": {").unwrap().1.split_once('}').unwrap().0;
@@ -109,9 +138,13 @@ fn json_agrees_with_the_states() {
             assert_eq!(size.is_none(), counter & 15 == 0, "{json}");
             assert_eq!(member("count") == "null", size.is_none(), "{json}");
             let count: usize = member("count").parse().unwrap_or(0);
+            assert_eq!(member("store_element_size"), (8 * bytes).to_string());
+            assert_eq!(member("every") == "null", size.is_none(), "{json}");
+            let every: usize = member("every").parse().unwrap_or(1);
             for (e, row) in json.split("{\"element\": ").skip(1).enumerate() {
-                let first = size.map(|size| 64 * e / size < count);
+                let first = size.map(|size| 8 * bytes * e / size < count);
                 let active = first.map_or(false, |first| first != (member("inverted") == "true"));
+                let active = active && e % every == 0;
                 assert!(row.starts_with(&format!("{e}, \"active\": {active},")), "{json}");
             }
         }

@@ -15,16 +15,19 @@ fn answer(options: &[&str], text: &str) -> String {
 }
 
 /// Stores of element 0 alone, which lies at this address, with its bytes' number.
-fn stores(first: u64) -> [(u64, String); 6] {
+fn stores(first: u64) -> [(u64, String); 9] {
     let scatter = |word| format!("word = {word}\nx0 = {first}\nz2.d = 0 0\np0.d = 1 0\n");
-    let strided = format!("word = 0xA1606000\nx0 = {first}\npn8 = 0x0018\n");
+    let strided = |word| format!("word = {word}\nx0 = {first}\npn8 = 0x0018\n");
     let quadword = format!("word = 0xE43F2041\nz2.d = {first} 0\np0.d = 1 0\n");
     [
         (1, scatter("0xE402A001")),
         (2, scatter("0xE482A001")),
         (4, scatter("0xE502A001")),
         (8, scatter("0xE582A001")),
-        (8, strided),
+        (1, strided("0xA1608000")),
+        (2, strided("0xA160A000")),
+        (4, strided("0xA160C000")),
+        (8, strided("0xA1606000")),
         (16, quadword),
     ]
 }

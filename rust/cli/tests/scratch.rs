@@ -4,12 +4,12 @@ use std::fs;
 use std::path::{Path, PathBuf};
 use std::process::Command;
 
-/// Four registers of 256 bytes, all active: the largest patch of a store.
+/// Four registers of 256 bytes, every second byte active: the largest patch of a store.
 const LARGEST: &str = "\
-word = 0xA120E000
+word = 0xA1208000
 vb = 256
 flags = sme2 streaming
-pn8 = 0x8008
+pn8 = 0x8002
 length = 1024
 ";
 
@@ -45,12 +45,12 @@ fn a_patch_is_the_same_whatever_memory_is() {
 #[test]
 fn there_is_room_for_the_largest_patch() {
     let store = file("largest", LARGEST);
-    assert_eq!(patch(&store).len(), 1_040);
+    assert_eq!(patch(&store).len(), 6_660);
     let mut command = Command::new(env!("CARGO_BIN_EXE_starshackle"));
     let output = command.arg("run").arg(&store).output().unwrap();
     let text = String::from_utf8(output.stdout).unwrap();
     assert!(
-        text.starts_with("done (verdict 0)\n  active elements 128, bytes moved 1024, steps 1\n"),
+        text.starts_with("done (verdict 0)\n  active elements 512, bytes moved 512, steps 512\n"),
         "{text}"
     );
 }

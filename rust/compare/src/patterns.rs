@@ -39,6 +39,18 @@ pub const CLASSES: &[Class] = &[
     class("ST1W, 64-bit unscaled",           1, "1110010 10 00 mmmmm 101 ggg nnnnn ttttt"),
     class("ST1W, 32-bit scaled",             1, "1110010 10 11 mmmmm 1x0 ggg nnnnn ttttt"),
     class("ST1W, 32-bit unscaled",           1, "1110010 10 10 mmmmm 1x0 ggg nnnnn ttttt"),
+    class("ST1B strided, two, scalar",       2, "10100001001 mmmmm  0 00 ggg nnnnn T 0 ttt"),
+    class("ST1B strided, four, scalar",      4, "10100001001 mmmmm  1 00 ggg nnnnn T 00 tt"),
+    class("ST1B strided, two, immediate",    2, "101000010110 iiii  0 00 ggg nnnnn T 0 ttt"),
+    class("ST1B strided, four, immediate",   4, "101000010110 iiii  1 00 ggg nnnnn T 00 tt"),
+    class("ST1H strided, two, scalar",       2, "10100001001 mmmmm  0 01 ggg nnnnn T 0 ttt"),
+    class("ST1H strided, four, scalar",      4, "10100001001 mmmmm  1 01 ggg nnnnn T 00 tt"),
+    class("ST1H strided, two, immediate",    2, "101000010110 iiii  0 01 ggg nnnnn T 0 ttt"),
+    class("ST1H strided, four, immediate",   4, "101000010110 iiii  1 01 ggg nnnnn T 00 tt"),
+    class("ST1W strided, two, scalar",       2, "10100001001 mmmmm  0 10 ggg nnnnn T 0 ttt"),
+    class("ST1W strided, four, scalar",      4, "10100001001 mmmmm  1 10 ggg nnnnn T 00 tt"),
+    class("ST1W strided, two, immediate",    2, "101000010110 iiii  0 10 ggg nnnnn T 0 ttt"),
+    class("ST1W strided, four, immediate",   4, "101000010110 iiii  1 10 ggg nnnnn T 00 tt"),
 ];
 
 const fn class(name: &'static str, registers: i64, bits: &'static str) -> Class {

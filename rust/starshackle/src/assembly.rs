@@ -30,6 +30,18 @@ const SYNTAX: &[&str] = &[
     "st1w { <Zt>.d }, <Pg>, [<Xn|SP>, <Zm>.d]",
     "st1w { <Zt>.s }, <Pg>, [<Xn|SP>, <Zm>.s, <mod> #2]",
     "st1w { <Zt>.s }, <Pg>, [<Xn|SP>, <Zm>.s, <mod>]",
+    "st1b { <Zt1>.b, <Zt2>.b }, <PNg>, [<Xn|SP>, <Xm>]",
+    "st1b { <Zt1>.b, <Zt2>.b, <Zt3>.b, <Zt4>.b }, <PNg>, [<Xn|SP>, <Xm>]",
+    "st1b { <Zt1>.b, <Zt2>.b }, <PNg>, [<Xn|SP>{, #<imm>, mul vl}]",
+    "st1b { <Zt1>.b, <Zt2>.b, <Zt3>.b, <Zt4>.b }, <PNg>, [<Xn|SP>{, #<imm>, mul vl}]",
+    "st1h { <Zt1>.h, <Zt2>.h }, <PNg>, [<Xn|SP>, <Xm>, lsl #1]",
+    "st1h { <Zt1>.h, <Zt2>.h, <Zt3>.h, <Zt4>.h }, <PNg>, [<Xn|SP>, <Xm>, lsl #1]",
+    "st1h { <Zt1>.h, <Zt2>.h }, <PNg>, [<Xn|SP>{, #<imm>, mul vl}]",
+    "st1h { <Zt1>.h, <Zt2>.h, <Zt3>.h, <Zt4>.h }, <PNg>, [<Xn|SP>{, #<imm>, mul vl}]",
+    "st1w { <Zt1>.s, <Zt2>.s }, <PNg>, [<Xn|SP>, <Xm>, lsl #2]",
+    "st1w { <Zt1>.s, <Zt2>.s, <Zt3>.s, <Zt4>.s }, <PNg>, [<Xn|SP>, <Xm>, lsl #2]",
+    "st1w { <Zt1>.s, <Zt2>.s }, <PNg>, [<Xn|SP>{, #<imm>, mul vl}]",
+    "st1w { <Zt1>.s, <Zt2>.s, <Zt3>.s, <Zt4>.s }, <PNg>, [<Xn|SP>{, #<imm>, mul vl}]",
 ];
 
 /// The text of a store that [`crate::decode`] has answered; none for a class not in the list.
@@ -128,6 +140,19 @@ mod tests {
             ([21, 30, 0, 7, 30, 31, 0, 0], "st1w { z31.d }, p7, [x30, z30.d, lsl #2]"),
             ([23, 1, 2, 0, 0, 0, 0, 0], "st1w { z0.s }, p0, [x0, z1.s, sxtw #2]"),
             ([24, 1, 1, 0, 31, 0, 0, 0], "st1w { z0.s }, p0, [sp, z1.s, uxtw]"),
+            ([25, 1, 0, 0, 0, 0, 0, 0], "st1b { z0.b, z8.b }, pn8, [x0, x1]"),
+            ([26, 31, 0, 1, 31, 19, 0, 0], "st1b { z19.b, z23.b, z27.b, z31.b }, pn9, [sp, xzr]"),
+            ([27, 0, 0, 0, 2, 16, 14, 0], "st1b { z16.b, z24.b }, pn8, [x2, #14, mul vl]"),
+            ([29, 3, 0, 7, 2, 7, 0, 0], "st1h { z7.h, z15.h }, pn15, [x2, x3, lsl #1]"),
+            ([32, 0, 0, 0, 0, 0, 0, 0], "st1h { z0.h, z4.h, z8.h, z12.h }, pn8, [x0]"),
+            (
+                [34, 31, 0, 0, 1, 0, 0, 0],
+                "st1w { z0.s, z4.s, z8.s, z12.s }, pn8, [x1, xzr, lsl #2]",
+            ),
+            (
+                [36, 0, 0, 0, 31, 3, (-32i64) as u64, 0],
+                "st1w { z3.s, z7.s, z11.s, z15.s }, pn8, [sp, #-32, mul vl]",
+            ),
         ];
         for (fields, text) in cases {
             assert_eq!(text_of(fields).as_deref(), Some(text));

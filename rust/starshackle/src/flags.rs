@@ -16,7 +16,7 @@ pub struct Flags(pub u64);
 impl Flags {
     /// Classes 1 to 7 and 13 to 24 are defined.
     pub const SVE: Flags = Flags(1);
-    /// Classes 8 to 11 are defined.
+    /// Classes 8 to 11 and 25 to 36 are defined.
     pub const SME2: Flags = Flags(1 << 1);
     /// Class 12 is defined.
     pub const SVE2P1: Flags = Flags(1 << 2);

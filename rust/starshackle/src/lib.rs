@@ -87,11 +87,13 @@ pub type StoreAnswer = [u64; 6];
 /// The entry of an encoder's [`Answer`] that holds the word.
 pub const WORD: usize = 4;
 
-/// No store's patch is longer, in bytes: a buffer for [`store()`] with room for all.
-pub const LARGEST_STORE_PATCH: usize = 1_040;
+/// No store's patch is longer, in bytes: a buffer for [`store()`] with room for all. With 1,040 bytes,
+/// which classes 1 to 24 need at most, a store of classes 25 to 36 that leaves gaps may be refused
+/// with [`Refusal::NoRoom`].
+pub const LARGEST_STORE_PATCH: usize = 6_660;
 
 /// No patch is longer, in bytes.
-pub const LARGEST_PATCH: usize = 1_796;
+pub const LARGEST_PATCH: usize = 7_172;
 
 /// No window is longer, in bytes.
 pub const LARGEST_WINDOW: usize = 65_536;

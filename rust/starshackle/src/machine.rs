@@ -29,8 +29,9 @@ pub struct Machine<'a> {
     /// The low 16 bits of register 8 + Pc are the counter of a strided store. Its element size is 8,
     /// 16, 32 or 64 bits, as its lowest set bit is bit 0, 1, 2 or 3; where none of these is set
     /// nothing is active. Its count is the number above that bit, up to bit log2(4 `vb`), which is
-    /// bit 6 for 16 bytes and bit 10 for 256; the bits above it up to 14 are ignored. A doubleword of
-    /// the store is active if it starts in one of the first `count` elements of that size, or, where
-    /// bit 15 is set, if it doesn't.
+    /// bit 6 for 16 bytes and bit 10 for 256; the bits above it up to 14 are ignored. Elements of that
+    /// size lie one behind the other through all registers of the store. An element of the store is
+    /// active if it starts where one of the first `count` of them starts, or, where bit 15 is set, where
+    /// another of them starts. So a counter of a wider size than the store's elements leaves gaps.
     pub p: &'a [u8],
 }

@@ -42,9 +42,10 @@ pub enum Verdict {
 }
 
 const UNDEFINED: &str = "the word has no class, or its class needs a flag that is off: \
-                         sve for 1 to 7 and 13 to 24, sme2 for 8 to 11, sve2p1 for 12";
+                         sve for 1 to 7 and 13 to 24, sme2 for 8 to 11 and 25 to 36, \
+                         sve2p1 for 12";
 const ILLEGAL: &str = "classes 1 to 7 and 12 to 24 need streaming off or fa64 on, \
-                       classes 8 to 11 need streaming on";
+                       classes 8 to 11 and 25 to 36 need streaming on";
 
 /// By number: the verdict, its name, and when it is given.
 const VERDICTS: [(Verdict, &str, &str); 12] = [

@@ -24,19 +24,20 @@ pub enum Extension {
 /// ```
 #[derive(Clone, Copy, Debug, Default, PartialEq, Eq, Hash)]
 pub struct Store {
-    /// The class, numbered from 1 to 12 as document 01 does and from 13 to 24 as document 02 (i) does.
+    /// The class, numbered from 1 to 12 as document 01 does, from 13 to 24 as document 02 (i) does and
+    /// from 25 to 36 as document 02 (vii) does.
     pub class: u64,
-    /// Zm in classes 1 to 7 and 13 to 24, Rm in 8, 9 and 12.
+    /// Zm in classes 1 to 7 and 13 to 24, Rm in 8, 9, 12, 25, 26, 29, 30, 33 and 34.
     pub index: u64,
     /// The offsets' extension, in classes 1, 2, 5, 6, 13, 14, 17 to 20, 23 and 24.
     pub extension: Option<Extension>,
-    /// Pg; in classes 8 to 11 the counter's register less 8.
+    /// Pg; in classes 8 to 11 and 25 to 36 the counter's register less 8.
     pub predicate: u64,
     /// Rn, 31 for SP; in class 12 Zn.
     pub base: u64,
-    /// Zt; in classes 8 to 11 the first of the registers.
+    /// Zt; in classes 8 to 11 and 25 to 36 the first of the registers.
     pub register: u64,
-    /// The immediate in vectors, in classes 10 and 11.
+    /// The immediate in vectors, in classes 10, 11, 27, 28, 31, 32, 35 and 36.
     pub multiple: i64,
 }
 
@@ -155,11 +156,41 @@ mod tests {
         }
     }
 
+    /// Classes 25 to 36, and 8 to 11, in order: bits 14..13 have the size, bit 15 whether there are four
+    /// registers, bit 22 whether there is an immediate.
+    #[test]
+    fn strided_stores() {
+        for (first, size) in [(25, 0), (29, 1), (33, 2), (8, 3)] {
+            for (class, form) in (first..).zip([0xA120_0000, 0xA120_8000, 0xA160_0000, 0xA160_8000])
+            {
+                let (four, immediate) = (form >> 15 & 1, form >> 22 & 1 == 1);
+                let fields = 7 << 10 | 31 << 5 | 1 << 4 | 3 | if immediate { 8 } else { 31 } << 16;
+                let (index, multiple) = match immediate {
+                    true => (0, if four == 1 { -32 } else { -16 }),
+                    false => (31, 0),
+                };
+                let (predicate, base, register) = (7, 31, 19);
+                let extension = None;
+                let store = Store { class, index, extension, predicate, base, register, multiple };
+                let word = form | size << 13 | fields;
+                assert_eq!(decode(word), Ok(store), "{word:08X}");
+                assert_eq!(encode(store), Ok(word));
+                assert_eq!(decode(word | 8), Err(Refusal::Undefined));
+                let refused = [
+                    Store { register: 8, ..store },
+                    Store { multiple: multiple + 1, ..store },
+                    Store { extension: Some(Extension::Uxtw), ..store },
+                ];
+                assert_eq!(refused.map(encode), [Err(Refusal::Fields); 3]);
+            }
+        }
+    }
+
     #[test]
     fn refusals() {
         assert_eq!(decode(0xE420_8000), Err(Refusal::Undefined));
         assert_eq!(encode(Store { multiple: 1, ..STRIDED }), Err(Refusal::Fields));
-        assert_eq!(encode(Store { class: 25, ..Store::default() }), Err(Refusal::Fields));
+        assert_eq!(encode(Store { class: 37, ..Store::default() }), Err(Refusal::Fields));
     }
 
     /// Places beside the classes: scaled bytes, doublewords in elements of 32 bits, and 64-bit offsets

@@ -1,15 +1,12 @@
--- `border_of`: the count in units, in eights, rounded up. No loop. Assumes nothing.
-use Prim.Native.Nat.{_+_, _/_, _^_, _<_}
-use mathlib.Core.Path.{_≡_}
+-- `border_of`: the count in units, in gaps, rounded up. No loop. Assumes nothing.
+use Prim.Native.Nat.{_+_, _-_, _*_, _/_, _%_, _^_, _≤_, _<_}
+use mathlib.Core.Path.{_≡_, ap}
 use native.Mathlib.Omega.{arith}
 use Rattle.elements.specs.Accesses.{borderOf}
-use Rattle.counters.proofs.Ranges.{border-is}
+use Rattle.counters.proofs.Ranges.{border-is, power-small}
 use borrow.Author.Needs.{needs}
 use Rattle.counters.proofs.border_of.Statement.{statement}
 use Rattle.counters.proofs.border_of.Tie as tie
-
-lowest-set-requires : tie.Need-lowest-set-requires
-lowest-set-requires c κs = search needs
 
 counted-requires : tie.Need-counted-requires
 counted-requires c κs = search needs
@@ -18,22 +15,39 @@ scaled-requires : tie.Need-scaled-requires
 scaled-requires c κs = search needs
 
 -- the border, and that what is divided is small
-border : (c : tie.After-scaled)
-    → let a = c .before .before .before .args in
-    ((c .scaled .result + 7) / 8 ≡ borderOf (a .vb) (a .v)) × (c .scaled .result < 2 ^ 15)
-border c =
-    let k = c .before in
-    let s = k .before in
-    let a = s .before in
-    border-is (a .args .vb) (a .args .v) (s .lowest-set .result) (k .counted .result) (c .scaled .result) (a .pre .0) (a .pre .1)
-    (s .lowest-set .ensures .0) (k .counted .ensures) (c .scaled .ensures)
+module _ (c : tie.After-scaled) where
+  abbrev start : tie.Start
+  start = c .before .before
+
+  gap : (1 ≤ 2 ^ start .args .g) × (2 ^ start .args .g ≤ 8)
+  gap = power-small (start .args .g) (start .pre .1 .2)
+
+  less : (1 * 2 ^ start .args .g) % 2 ^ 64 ≡ 2 ^ start .args .g
+  less = omega (arith, gap .1)
+
+  border :
+      ((c .scaled .result + (2 ^ start .args .g - 1)) / 2 ^ start .args .g ≡ borderOf (start .args .vb) (start .args .v) (start .args .g))
+      × (c .scaled .result < 2 ^ 15)
+  border =
+      border-is (start .args .vb) (start .args .v) (start .args .g) (start .args .shift) (c .before .counted .result) (c .scaled .result)
+      (start .pre .0 .0) (start .pre .0 .1) (start .pre .1 .0) (c .before .counted .ensures) (c .scaled .ensures)
+
+shl-result : tie.Need-shl-result
+shl-result c = search needs
+
+sub-result : tie.Need-sub-result
+sub-result c = omega (arith, less c, gap c .0)
 
 add-result : tie.Need-add-result
-add-result c = omega (arith, border c .1)
+add-result c = omega (arith, less c, gap c .1, border c .1)
+
+shr-result : tie.Need-shr-result
+shr-result c = search needs
 
 returns : tie.Need-returns
-returns c = omega (arith, border c .0)
+returns c = rw (less c) (border c .0)
 
 pub border-of-spec : {M : Type 1} → statement M
 border-of-spec =
-    tie.close (tie.spec lowest-set-requires counted-requires scaled-requires add-result returns)
+    tie.close
+    (tie.spec counted-requires scaled-requires shl-result sub-result add-result shr-result returns)

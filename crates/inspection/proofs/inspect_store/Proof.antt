@@ -1,6 +1,6 @@
 -- `inspect_store`: the element of the store's access, by its case. Assumes nothing.
 use mathlib.Core.Bool.{false}
-use mathlib.Core.Path.{_≡_, refl, sym, ap, _∙_, subst}
+use mathlib.Core.Path.{_≡_, sym, ap, ap₂, _∙_, subst}
 use Prim.Native.Nat.{_*_}
 use lib.ListN.{length}
 use Rattle.encoding.specs.Encoding.{classFor, refused}
@@ -8,10 +8,9 @@ use Rattle.encoding.specs.declared.Store.{Store}
 use Rattle.encoding.specs.declared.Store.the-variants.{Scatter, Strided, Quadword}
 use Rattle.endian.proofs.LittleEndian.{bytes-at}
 use Rattle.elements.specs.Machine.{Machine, machine}
-use Rattle.elements.specs.Accesses.{stridedAccess, VectorSound, StridedSound}
+use Rattle.elements.specs.Accesses.{stridedOf, stridedAccess, VectorSound, StridedSound}
 use Rattle.elements.specs.declared.VectorAccess.{VectorAccess}
 use Rattle.elements.specs.declared.StridedAccess.{StridedAccess}
-use Rattle.elements.proofs.Numbers.{strided-whole}
 use Rattle.elements.proofs.Shapes.{scatter-in, quadword-in, strided-in}
 use Rattle.accesses.proofs.Soundness.{scatter-sound, quadword-sound, strided-sound}
 use Rattle.inspection.specs.Inspection.{inspectedAt}
@@ -91,10 +90,7 @@ accessed c =
     let r = c .before in
     let t = r .before .before .before in
     let f = t .store2 .given .0 .0 in
-    let s = strided-in f (ok (strided t) _ (t .store2 .given .1)) in
-    c .strided-access .ensures
-    ∙ strided-whole (m (strided t)) f (s .step) (s .eight) _ _ _ _ refl
-    (r .before .start-of .ensures) (r .range-for .ensures .0) (r .range-for .ensures .1)
+    c .strided-access .ensures ∙ ap₂ (stridedOf (classFor (Strided f)) f) (r .before .start-of .ensures) (r .range-for .ensures)
 
 inspect-strided-requires : tie.Need-inspect-strided-requires
 inspect-strided-requires c κs =
@@ -140,7 +136,7 @@ returns-2 c =
     let s = strided-in f (ok a (Strided f) (t .store2 .given .1)) in
     c .inspect-strided .ensures
     ∙ ap (λ (v : StridedAccess). stridedInspected v (a .args .vb) (a .args .e)) (accessed (c .before))
-    ∙ strided-inspected (m a) (a .args .e) f s
+    ∙ strided-inspected (m a) (a .args .e) f s (a .pre .1 .low) (a .pre .1 .sixteen)
     ∙ ap (λ (y : Store). inspectedAt (m a) y (a .args .e)) (sym (t .store2 .given .1))
 
 returns-3 : tie.Need-returns-3

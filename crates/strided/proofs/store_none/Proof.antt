@@ -6,7 +6,7 @@ use Rattle.endian.proofs.LittleEndian.{bytes-at}
 use Rattle.window.proofs.Windows.{window-inv}
 use Rattle.stretches.specs.Intervals.{total}
 use Rattle.cutting.specs.Cutting.{spaced}
-use Rattle.strided.proofs.Single.{none-short, none-done}
+use Rattle.strided.proofs.Covering.{none-short, none-done}
 use Rattle.strided.proofs.store_none.Statement.{statement}
 use Rattle.strided.proofs.store_none.Tie as tie
 

@@ -9,7 +9,7 @@ use borrow.Author.Needs.{needs}
 use Rattle.window.specs.Window.{inWindow}
 use Rattle.writes.specs.Elements.{Element}
 use Rattle.elements.specs.Accesses.{stridedElements}
-use Rattle.accesses.proofs.Joined.{strided-none}
+use Rattle.accesses.proofs.Spacing.{strided-none}
 use Rattle.strided.specs.Searching.{SearchedAs}
 use Rattle.strided.specs.declared.Search.{Search}
 use Rattle.outcomes.proofs.Concluding.{stored-fault, stored-listed}

@@ -15,6 +15,8 @@ pub enum Active {
     All,
     /// Every second element of a scatter, the first half of a strided store.
     Half,
+    /// Every second element of a strided store, by a counter of twice the element's size.
+    Second,
     None,
 }
 
@@ -85,7 +87,7 @@ impl Shape {
     fn predicate(&self, input: &mut Input, bytes: usize) {
         let is_active = |e: &usize| match self.active {
             Active::All => true,
-            Active::Half => e % 2 == 0,
+            Active::Half | Active::Second => e % 2 == 0,
             Active::None => false,
         };
         for e in (0..self.vb / bytes).filter(is_active) {
@@ -115,10 +117,13 @@ impl Shape {
 
     fn strided(&self, input: &mut Input, registers: usize) {
         (input.x[1], input.x[2]) = (START, 8);
+        let size = CLASSES[self.class - 1].esize as u16 / 8;
+        // A counter's lowest set bit tells its element's bytes, and above it stands the count.
         let counter = match self.active {
-            Active::All => 0x8008, // inverted, with a count of none
-            Active::Half => ((registers * self.vb / 16) as u16) << 4 | 8,
-            Active::None => 8,
+            Active::All => 0x8000 | size, // inverted, with a count of none
+            Active::Half => (registers * self.vb) as u16 | size,
+            Active::Second => 0x8000 | size << 1,
+            Active::None => size,
         };
         input.p[self.vb..self.vb + 2].copy_from_slice(&counter.to_le_bytes());
     }

@@ -19,6 +19,10 @@ const BYTES: f64 = 1.35;
 /// Halfwords and words.
 const NARROW: f64 = 1.4;
 const STRIDED: f64 = 1.6;
+/// Strided bytes, halfwords and words.
+const STRIDED_NARROW: f64 = 1.8;
+/// A run for each element of a strided store.
+const SPACED: f64 = 1.1;
 const RANDOM: f64 = 1.15;
 
 /// How many random stores are called in turn.
@@ -41,6 +45,12 @@ pub fn cases() -> Vec<Case> {
     }
     let half = Shape { active: Active::Half, ..Shape::new(9, 256) };
     cases.push(one("class 9, VB 256, half", STRIDED, half));
+    for class in [26, 30, 34] {
+        let name = format!("class {class}, VB 256, whole");
+        cases.push(one(name, STRIDED_NARROW, Shape::new(class, 256)));
+    }
+    let second = Shape { active: Active::Second, ..Shape::new(26, 256) };
+    cases.push(one("class 26, VB 256, halfword counter: 512 runs", SPACED, second));
     cases.push(pairs());
     cases.push(fault());
     cases.push(random("classes 1 to 7", 7));

@@ -31,7 +31,10 @@ pub enum Loop {
     PackedWordUxtw,
     PackedWordSxtw,
     Quadword,
-    Strided,
+    StridedByte,
+    StridedHalfword,
+    StridedWord,
+    StridedDoubleword,
 }
 
 /// What words of a class have in common.
@@ -67,7 +70,7 @@ const EMPTY: Row = Row {
     step: 0,
     feature: SVE as u8,
     scale: 0,
-    by: Loop::Strided,
+    by: Loop::StridedDoubleword,
 };
 
 const fn scatter(class: u8, base: u32, scale: u8, by: Loop) -> Row {
@@ -86,17 +89,17 @@ const fn quadword(class: u8, base: u32) -> Row {
     Row { feature: SVE2P1 as u8, ..scatter(class, base, 0, Loop::Quadword) }
 }
 
-const fn strided(class: u8, base: u32, register: u8) -> Row {
+const fn strided(class: u8, base: u32, register: u8, by: Loop) -> Row {
     let fixed = 0xFFE0_E000 | !register as u32 & 0x1F;
-    Row { class, base, fixed, register, feature: SME2 as u8, ..EMPTY }
+    Row { class, base, fixed, register, feature: SME2 as u8, by, ..EMPTY }
 }
 
-const fn immediate(class: u8, base: u32, register: u8, step: u8) -> Row {
-    let strided = strided(class, base, register);
+const fn immediate(class: u8, base: u32, register: u8, step: u8, by: Loop) -> Row {
+    let strided = strided(class, base, register, by);
     Row { fixed: strided.fixed | 1 << 20, index: 0, step, ..strided }
 }
 
-const ROWS: [Row; 36] = [
+const ROWS: [Row; 48] = [
     uxtw(1, 0xE5A0_8000, 3, Loop::DoublewordUxtw),
     sxtw(1, 0xE5A0_8000, 3, Loop::DoublewordSxtw),
     uxtw(2, 0xE580_8000, 0, Loop::DoublewordUxtw),
@@ -108,10 +111,10 @@ const ROWS: [Row; 36] = [
     uxtw(6, 0xE440_8000, 0, Loop::PackedByteUxtw),
     sxtw(6, 0xE440_8000, 0, Loop::PackedByteSxtw),
     scatter(7, 0xE400_A000, 0, Loop::Byte),
-    strided(8, 0xA120_6000, 0x17),
-    strided(9, 0xA120_E000, 0x13),
-    immediate(10, 0xA160_6000, 0x17, 2),
-    immediate(11, 0xA160_E000, 0x13, 4),
+    strided(8, 0xA120_6000, 0x17, Loop::StridedDoubleword),
+    strided(9, 0xA120_E000, 0x13, Loop::StridedDoubleword),
+    immediate(10, 0xA160_6000, 0x17, 2, Loop::StridedDoubleword),
+    immediate(11, 0xA160_E000, 0x13, 4, Loop::StridedDoubleword),
     quadword(12, 0xE420_2000),
     uxtw(13, 0xE4A0_8000, 1, Loop::HalfwordUxtw),
     sxtw(13, 0xE4A0_8000, 1, Loop::HalfwordSxtw),
@@ -133,17 +136,29 @@ const ROWS: [Row; 36] = [
     sxtw(23, 0xE560_8000, 2, Loop::PackedWordSxtw),
     uxtw(24, 0xE540_8000, 0, Loop::PackedWordUxtw),
     sxtw(24, 0xE540_8000, 0, Loop::PackedWordSxtw),
+    strided(25, 0xA120_0000, 0x17, Loop::StridedByte),
+    strided(26, 0xA120_8000, 0x13, Loop::StridedByte),
+    immediate(27, 0xA160_0000, 0x17, 2, Loop::StridedByte),
+    immediate(28, 0xA160_8000, 0x13, 4, Loop::StridedByte),
+    strided(29, 0xA120_2000, 0x17, Loop::StridedHalfword),
+    strided(30, 0xA120_A000, 0x13, Loop::StridedHalfword),
+    immediate(31, 0xA160_2000, 0x17, 2, Loop::StridedHalfword),
+    immediate(32, 0xA160_A000, 0x13, 4, Loop::StridedHalfword),
+    strided(33, 0xA120_4000, 0x17, Loop::StridedWord),
+    strided(34, 0xA120_C000, 0x13, Loop::StridedWord),
+    immediate(35, 0xA160_4000, 0x17, 2, Loop::StridedWord),
+    immediate(36, 0xA160_C000, 0x13, 4, Loop::StridedWord),
 ];
 
-/// Bits 24..21 and 15..13 tell the rows apart.
+/// Bits 30, 24..21 and 15..13 tell the rows apart.
 const fn key(word: u32) -> usize {
-    (word >> 18 & 0x78 | word >> 13 & 7) as usize
+    (word >> 23 & 0x80 | word >> 18 & 0x78 | word >> 13 & 7) as usize
 }
 
-static TABLE: [Row; 128] = table();
+static TABLE: [Row; 256] = table();
 
-const fn table() -> [Row; 128] {
-    let mut table = [EMPTY; 128];
+const fn table() -> [Row; 256] {
+    let mut table = [EMPTY; 256];
     let mut number = 0;
     while number < ROWS.len() {
         table[key(ROWS[number].base)] = ROWS[number];
@@ -166,6 +181,16 @@ pub fn field(word: u32, low: u32, mask: u32) -> usize {
 }
 
 impl Row {
+    /// How many registers a strided store has.
+    #[inline(always)]
+    pub fn registers(&self) -> usize {
+        if self.register == 0x17 {
+            2
+        } else {
+            4
+        }
+    }
+
     /// The first register.
     #[inline(always)]
     pub fn register(&self, word: u32) -> usize {

@@ -49,7 +49,10 @@ pub fn store(
         Loop::PackedWordUxtw => from_base::<4, 4, UXTW>(&lent, scale, buffers),
         Loop::PackedWordSxtw => from_base::<4, 4, SXTW>(&lent, scale, buffers),
         Loop::Quadword => scatter(Lanes::<16, 16, NONE>::quadword(&lent), buffers),
-        Loop::Strided => strided(&lent, row, buffers),
+        Loop::StridedByte => strided::<1>(&lent, row, buffers),
+        Loop::StridedHalfword => strided::<2>(&lent, row, buffers),
+        Loop::StridedWord => strided::<4>(&lent, row, buffers),
+        Loop::StridedDoubleword => strided::<8>(&lent, row, buffers),
     }
 }
 

@@ -39,7 +39,7 @@ impl<'a> Access<'a> {
         let base = x(store.base, machine.sp);
         let index = match form {
             Form::Strided { immediate: true, .. } => (store.multiple * machine.vb as i64) as u64,
-            Form::Strided { .. } => x(store.index, 0).wrapping_mul(8),
+            Form::Strided { element, .. } => x(store.index, 0).wrapping_mul(element as u64),
             _ => x(store.index, 0),
         };
         let access = Access { machine, form, store, active, base, index };
@@ -65,7 +65,7 @@ impl<'a> Access<'a> {
         let vb = self.machine.vb;
         let count = match self.form {
             Form::Scatter { element, .. } => vb / element,
-            Form::Strided { registers, .. } => registers * vb / 8,
+            Form::Strided { registers, element, .. } => registers * vb / element,
             Form::Quadword => vb / 16,
         };
         (0..count).map(move |e| self.element(e))
@@ -80,13 +80,13 @@ impl<'a> Access<'a> {
                 let bytes = &self.machine.z(register)[from..from + stored];
                 Element { active: self.active.at(from), address, bytes }
             }
-            Form::Strided { registers, .. } => {
-                let each = self.machine.vb / 8;
+            Form::Strided { registers, element, .. } => {
+                let each = self.machine.vb / element;
                 let register = register + e / each * (16 / registers);
-                let from = e % each * 8;
-                let address = self.base.wrapping_add(self.index).wrapping_add(e as u64 * 8);
-                let bytes = &self.machine.z(register)[from..from + 8];
-                Element { active: self.active.at(e * 8), address, bytes }
+                let (place, from) = (e * element, e % each * element);
+                let address = self.base.wrapping_add(self.index).wrapping_add(place as u64);
+                let bytes = &self.machine.z(register)[from..from + element];
+                Element { active: self.active.at(place), address, bytes }
             }
             Form::Quadword => {
                 let from = e * 16;

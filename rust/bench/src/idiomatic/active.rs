@@ -4,9 +4,10 @@ pub enum Active<'a> {
     None,
     /// Those whose first bit is set.
     Predicate(&'a [u8]),
-    /// Those below the count, or the others, where this many bits of a number of bytes are dropped.
+    /// Of the counter's elements, those below the count or the others; where one starts, this many bits
+    /// of a number of bytes are 0.
     Counter {
-        dropped: u32,
+        zeros: u32,
         count: usize,
         inverted: bool,
     },
@@ -19,9 +20,9 @@ impl<'a> Active<'a> {
         if counter & 0xF == 0 {
             return Active::None;
         }
-        let dropped = counter.trailing_zeros();
-        let count = (usize::from(counter) & (8 * vb - 1)) >> (dropped + 1);
-        Active::Counter { dropped, count, inverted: counter >> 15 == 1 }
+        let zeros = counter.trailing_zeros();
+        let count = (usize::from(counter) & (8 * vb - 1)) >> (zeros + 1);
+        Active::Counter { zeros, count, inverted: counter >> 15 == 1 }
     }
 
     /// Whether the element is active that starts so many bytes behind the first.
@@ -29,7 +30,10 @@ impl<'a> Active<'a> {
         match *self {
             Active::None => false,
             Active::Predicate(bits) => bits[byte / 8] >> (byte % 8) & 1 == 1,
-            Active::Counter { dropped, count, inverted } => (byte >> dropped < count) != inverted,
+            Active::Counter { zeros, count, inverted } => {
+                let starts = byte & ((1 << zeros) - 1) == 0;
+                starts && (byte >> zeros < count) != inverted
+            }
         }
     }
 }

@@ -7,8 +7,9 @@ use starshackle::{Extension, Store};
 pub enum Form {
     /// Elements of so many bytes, of which so many are stored, at a base plus scaled offsets.
     Scatter { element: usize, stored: usize, scale: u32, extended: bool },
-    /// Whole registers, one behind the other, at a base plus an index or an immediate.
-    Strided { registers: usize, immediate: bool },
+    /// Elements of so many bytes of registers, one behind the other, at a base plus an index or an
+    /// immediate.
+    Strided { element: usize, registers: usize, immediate: bool },
     /// Quadwords at a vector of bases plus an index.
     Quadword,
 }
@@ -29,13 +30,19 @@ const fn scatter(number: u64, base: u32, sizes: (usize, usize), scale: u32) -> C
     Class { number, base, fixed, form: Form::Scatter { element, stored, scale, extended } }
 }
 
-const fn strided(number: u64, base: u32, registers: usize, immediate: bool) -> Class {
+const fn strided(
+    number: u64,
+    base: u32,
+    element: usize,
+    registers: usize,
+    immediate: bool,
+) -> Class {
     let high = if immediate { 0xFFF0_E000 } else { 0xFFE0_E000 };
     let low = if registers == 2 { 0x8 } else { 0xC };
-    Class { number, base, fixed: high | low, form: Form::Strided { registers, immediate } }
+    Class { number, base, fixed: high | low, form: Form::Strided { element, registers, immediate } }
 }
 
-const CLASSES: [Class; 24] = [
+const CLASSES: [Class; 36] = [
     scatter(1, 0xE5A0_8000, (8, 8), 3),
     scatter(2, 0xE580_8000, (8, 8), 0),
     scatter(3, 0xE5A0_A000, (8, 8), 3),
@@ -43,10 +50,10 @@ const CLASSES: [Class; 24] = [
     scatter(5, 0xE400_8000, (8, 1), 0),
     scatter(6, 0xE440_8000, (4, 1), 0),
     scatter(7, 0xE400_A000, (8, 1), 0),
-    strided(8, 0xA120_6000, 2, false),
-    strided(9, 0xA120_E000, 4, false),
-    strided(10, 0xA160_6000, 2, true),
-    strided(11, 0xA160_E000, 4, true),
+    strided(8, 0xA120_6000, 8, 2, false),
+    strided(9, 0xA120_E000, 8, 4, false),
+    strided(10, 0xA160_6000, 8, 2, true),
+    strided(11, 0xA160_E000, 8, 4, true),
     Class { number: 12, base: 0xE420_2000, fixed: 0xFFE0_E000, form: Form::Quadword },
     scatter(13, 0xE4A0_8000, (8, 2), 1),
     scatter(14, 0xE480_8000, (8, 2), 0),
@@ -60,6 +67,18 @@ const CLASSES: [Class; 24] = [
     scatter(22, 0xE500_A000, (8, 4), 0),
     scatter(23, 0xE560_8000, (4, 4), 2),
     scatter(24, 0xE540_8000, (4, 4), 0),
+    strided(25, 0xA120_0000, 1, 2, false),
+    strided(26, 0xA120_8000, 1, 4, false),
+    strided(27, 0xA160_0000, 1, 2, true),
+    strided(28, 0xA160_8000, 1, 4, true),
+    strided(29, 0xA120_2000, 2, 2, false),
+    strided(30, 0xA120_A000, 2, 4, false),
+    strided(31, 0xA160_2000, 2, 2, true),
+    strided(32, 0xA160_A000, 2, 4, true),
+    strided(33, 0xA120_4000, 4, 2, false),
+    strided(34, 0xA120_C000, 4, 4, false),
+    strided(35, 0xA160_4000, 4, 2, true),
+    strided(36, 0xA160_C000, 4, 4, true),
 ];
 
 /// The class of a word, and the store that it names.
@@ -85,7 +104,7 @@ impl Class {
                 let signed = field(14, 1) == 1;
                 store.extension = Some(if signed { Extension::Sxtw } else { Extension::Uxtw });
             }
-            Form::Strided { registers, immediate: true } => {
+            Form::Strided { registers, immediate: true, .. } => {
                 let imm4 = field(16, 4) as i64;
                 let signed = if imm4 < 8 { imm4 } else { imm4 - 16 };
                 store.index = 0;

@@ -60,7 +60,7 @@ fn gap(random: &mut Random, gaps: Gaps) -> u64 {
     match gaps {
         Gaps::One => 1,
         Gaps::Near => 1 + random.below(20) as u64,
-        Gaps::Far => 1 << random.below(56),
+        Gaps::Far => 1 << random.below(54),
         Gaps::Mixed if random.one_in(8) => gap(random, Gaps::Far),
         Gaps::Mixed if random.one_in(2) => gap(random, Gaps::Near),
         Gaps::Mixed => 1,
@@ -130,9 +130,10 @@ pub fn few(random: &mut Random, least: usize) -> Vec<Run> {
 
 /// As `few`, but at times long runs or many.
 pub fn some(random: &mut Random, least: usize) -> Vec<Run> {
-    match random.below(40) {
+    match random.below(80) {
         0 => most_runs(random),
-        1 => long(random, MOST_BYTES),
+        1 => hundreds(random),
+        2 | 3 => long(random, MOST_BYTES),
         _ => few(random, least),
     }
 }
@@ -145,13 +146,24 @@ pub fn long(random: &mut Random, bytes: usize) -> Vec<Run> {
 
 /// So many runs, mostly of few bytes.
 pub fn many(random: &mut Random, count: usize) -> Vec<Run> {
-    let most = if random.one_in(8) { MOST_BYTES - count } else { 2 * count };
+    let room = MOST_BYTES - count;
+    let most = if random.one_in(8) { room } else { room.min(2 * count) };
     let bytes = count + random.below(most + 1);
     runs_of(random, count, bytes)
 }
 
 pub fn most_runs(random: &mut Random) -> Vec<Run> {
     many(random, MOST_RUNS)
+}
+
+/// More runs than the scope paper had, before document 02 (vii): 65 to 512.
+pub fn hundreds(random: &mut Random) -> Vec<Run> {
+    let count = match random.below(8) {
+        0 => 65,
+        1 => MOST_RUNS - random.below(3),
+        _ => 65 + random.below(MOST_RUNS - 64),
+    };
+    many(random, count)
 }
 
 pub fn most_bytes(random: &mut Random) -> Vec<Run> {

@@ -6,6 +6,8 @@ pub mod kinds;
 pub mod reader;
 mod tally;
 pub mod windows;
+#[cfg(test)]
+mod wrong;
 
 use crate::random::Random;
 use crate::reference::Outcome;
@@ -24,21 +26,46 @@ const MARGIN: usize = 64;
 /// Bytes from which memories are taken.
 const NOISE: usize = MARGIN + LONGEST + 1 + MARGIN + 1024;
 
-/// Compares so many strings, which have to hit everything that is counted.
+/// An implementation of the calls that read patches.
+trait Reader: Sync {
+    fn judge(&self, string: &[u8]) -> Outcome<5>;
+    fn apply(&self, base: u64, memory: &mut [u8], string: &[u8]) -> Outcome<5>;
+}
+
+/// The model.
+struct Model;
+
+impl Reader for Model {
+    fn judge(&self, string: &[u8]) -> Outcome<5> {
+        model_judge(string)
+    }
+
+    fn apply(&self, base: u64, memory: &mut [u8], string: &[u8]) -> Outcome<5> {
+        model_apply(base, memory, string)
+    }
+}
+
+/// Compares the model on so many strings, which have to hit everything that is counted.
 pub fn run(report: &Report, strings: u64, seed: u64, threads: usize) {
+    compare(report, &Model, strings, seed, threads).print(report);
+}
+
+/// Compares an implementation on so many strings.
+fn compare(report: &Report, reader: &dyn Reader, strings: u64, seed: u64, threads: usize) -> Tally {
     let work = |first| {
         let noise = Random::new(seed).bytes(NOISE);
-        let mut comparison = Comparison { report, seed, noise, tally: Tally::new() };
+        let mut comparison = Comparison { report, reader, seed, noise, tally: Tally::new() };
         comparison.strings((first..strings).step_by(threads));
         comparison.tally
     };
     let mut total = Tally::new();
     spread(threads, work).iter().for_each(|tally| total.add(tally));
-    total.print(report);
+    total
 }
 
 struct Comparison<'a> {
     report: &'a Report,
+    reader: &'a dyn Reader,
     seed: u64,
     noise: Vec<u8>,
     tally: Tally,
@@ -85,7 +112,7 @@ impl Comparison<'_> {
     /// Judges the string in both ways and compares what they answer.
     fn judge(&self, subject: &Subject, read: &reader::Read) -> Outcome<5> {
         let right = reader::judged(read);
-        let model = model_judge(subject.string);
+        let model = self.reader.judge(subject.string);
         self.report.compare(&model, &right, || format!("judge {}", subject.text()));
         right
     }
@@ -95,7 +122,7 @@ impl Comparison<'_> {
         let Window { base, length } = *subject.window;
         let (mut by_reader, mut by_model) = (memory.to_vec(), memory.to_vec());
         let right = reader::apply(read, base, &mut by_reader[MARGIN..][..length]);
-        let model = model_apply(base, &mut by_model[MARGIN..][..length], subject.string);
+        let model = self.reader.apply(base, &mut by_model[MARGIN..][..length], subject.string);
         if !model.is(&right) || by_model != by_reader {
             self.report.tell(|| {
                 let answers = answers(&model, &right);

@@ -9,8 +9,19 @@ use std::collections::BTreeMap;
 pub const RUN_MARK: [u8; 2] = [0x50, 0x52];
 pub const TRAILER_MARK: [u8; 2] = [0x50, 0x45];
 
-pub const MOST_RUNS: usize = 64;
+pub const MOST_RUNS: usize = 512;
 pub const MOST_BYTES: usize = 1024;
+
+/// The most runs and payload bytes of a patch.
+#[derive(Clone, Copy)]
+pub struct Sizes {
+    pub runs: usize,
+    pub bytes: usize,
+}
+
+/// Document 02 (vii): "The patch may now hold 0 to 512 runs, still at most 1,024 payload bytes".
+pub const SIZES: Sizes = Sizes { runs: MOST_RUNS, bytes: MOST_BYTES };
+
 /// 2^64, behind the last address.
 pub const TOP: u128 = 1 << 64;
 
@@ -84,7 +95,7 @@ pub fn runs(writes: &Writes) -> Runs {
 }
 
 /// The encoding of a set that is within the sizes, without its trailer.
-fn body(writes: &Writes, runs: &Runs) -> Option<Vec<u8>> {
+fn body(writes: &Writes, runs: &Runs, sizes: Sizes) -> Option<Vec<u8>> {
     let mut body = Vec::new();
     for (start, bytes) in runs {
         body.extend(RUN_MARK);
@@ -92,33 +103,38 @@ fn body(writes: &Writes, runs: &Runs) -> Option<Vec<u8>> {
         body.extend((bytes.len() as u16).to_le_bytes());
         body.extend(bytes);
     }
-    (runs.len() <= MOST_RUNS && writes.len() <= MOST_BYTES).then_some(body)
+    (runs.len() <= sizes.runs && writes.len() <= sizes.bytes).then_some(body)
 }
 
 /// The encoding of a set that is within the sizes.
-pub fn encoding(writes: &Writes, runs: &Runs) -> Option<Vec<u8>> {
+pub fn encoding(writes: &Writes, runs: &Runs, sizes: Sizes) -> Option<Vec<u8>> {
     let count = (runs.len() as u16).to_le_bytes();
-    body(writes, runs).map(|body| [&body[..], &TRAILER_MARK, &count].concat())
+    body(writes, runs, sizes).map(|body| [&body[..], &TRAILER_MARK, &count].concat())
 }
 
 /// Whether the pieces, which are a string's first ones, are the beginning of an encoding.
-fn acceptable(string: &[u8], pieces: &[Piece]) -> bool {
+fn acceptable(string: &[u8], pieces: &[Piece], sizes: Sizes) -> bool {
     let end = pieces.last().map_or(0, |piece| piece.end);
-    let body = writes(pieces).and_then(|writes| body(&writes, &runs(&writes)));
+    let body = writes(pieces).and_then(|writes| body(&writes, &runs(&writes), sizes));
     body.as_deref() == Some(&string[..end])
 }
 
 pub fn read(string: &[u8]) -> Read {
+    read_within(SIZES, string)
+}
+
+/// What a string is read as where patches have these sizes.
+pub fn read_within(sizes: Sizes, string: &[u8]) -> Read {
     let pieces = pieces(string);
     if let Some(writes) = writes(&pieces) {
         let runs = runs(&writes);
-        if encoding(&writes, &runs).as_deref() == Some(string) {
+        if encoding(&writes, &runs, sizes).as_deref() == Some(string) {
             return Read::Patch { writes, runs };
         }
     }
     // What is the beginning of an encoding stays so with fewer runs.
     let counts: Vec<usize> = (1..=pieces.len()).collect();
-    let runs = counts.partition_point(|&count| acceptable(string, &pieces[..count]));
+    let runs = counts.partition_point(|&count| acceptable(string, &pieces[..count], sizes));
     let offset = pieces[..runs].last().map_or(0, |piece| piece.end);
     Read::NoPatch { runs, offset }
 }

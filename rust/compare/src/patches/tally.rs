@@ -24,8 +24,8 @@ pub struct Tally {
     /// For each kind of strings and each of windows.
     cells: Vec<Vec<Counts>>,
     judged: Counts,
-    /// Acceptable runs before what is refused: none, one, more, the most.
-    acceptable: [u64; 4],
+    /// Acceptable runs before what is refused: none, one, more, over 64, the most.
+    acceptable: [u64; 5],
     /// The run outside: the first, a later one, the last of several.
     outside: [u64; 3],
 }
@@ -49,7 +49,7 @@ fn add(counts: &mut [u64], more: &[u64]) {
 impl Tally {
     pub fn new() -> Tally {
         let cells = vec![vec![[0; VERDICTS.len()]; WINDOWS.len()]; KINDS.len()];
-        Tally { cells, judged: [0; VERDICTS.len()], acceptable: [0; 4], outside: [0; 3] }
+        Tally { cells, judged: [0; VERDICTS.len()], acceptable: [0; 5], outside: [0; 3] }
     }
 
     pub fn count(&mut self, seen: &Seen) {
@@ -58,7 +58,12 @@ impl Tally {
         self.judged[column(judged.verdict)] += 1;
         if judged.verdict == BAD_PATCH {
             let runs = judged.numbers[0] as usize;
-            self.acceptable[if runs == MOST_RUNS { 3 } else { runs.min(2) }] += 1;
+            let column = match runs {
+                MOST_RUNS => 4,
+                65.. => 3,
+                _ => runs.min(2),
+            };
+            self.acceptable[column] += 1;
         }
         if applied.verdict == OUTSIDE {
             let (run, runs) = (applied.numbers[0], judged.numbers[2]);
@@ -89,7 +94,7 @@ impl Tally {
             let column = self.cells.iter().map(|cells| &cells[number]);
             row(report, &name, kind.verdicts, &VERDICTS, &sum(column));
         }
-        let names = ["none", "one", "more", "64"];
+        let names = ["none", "one", "2 to 64", "65 to 511", "512"];
         row(report, "acceptable runs before a refusal", &names, &names, &self.acceptable);
         let names = ["first", "later", "last"];
         row(report, "run outside", &names, &names, &self.outside);

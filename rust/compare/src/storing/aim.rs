@@ -1,5 +1,6 @@
 //! Registers under which a store writes into a window, over its ends or beside it.
 
+use super::arm::counter_to_predicate;
 use super::classes::{Class, Form, BASE, IMM4, INDEX, PREDICATE, R31, XS};
 use super::input::Input;
 use crate::random::Random;
@@ -14,8 +15,8 @@ pub struct Window {
 pub fn aim(random: &mut Random, class: &Class, window: &Window, input: &mut Input) {
     match class.form {
         Form::Strided { .. } => {
-            let (low, high) = counter(random, class, input);
-            let start = start(random, window, low, high);
+            let active = counter(random, class, input);
+            let start = start(random, window, &active, class.esize as u64 / 8);
             strided(random, class, start, input);
         }
         _ => {
@@ -140,33 +141,46 @@ fn quadword(targets: &[u64], input: &mut Input) {
     }
 }
 
-/// Sets the counter and tells the first active byte, counted from the first element's, and the one
-/// behind the last.
-pub fn counter(random: &mut Random, class: &Class, input: &mut Input) -> (u64, u64) {
-    let count = class.elements(input.vb);
+/// Sets the counter and tells where the active elements start, counted from the first element's first
+/// byte.
+pub fn counter(random: &mut Random, class: &Class, input: &mut Input) -> Vec<u64> {
+    let (count, size) = (class.elements(input.vb), class.esize / 8);
     let border = match random.below(8) {
-        0 => random.below(4 * input.vb / 8 + 1),
+        0 => random.below(4 * input.vb / size + 1),
         1 => count,
         _ => random.below(count + 1),
     };
     let inverted = random.one_in(2);
-    let value = counter_value(random, border, inverted, input.vb);
-    let from = (8 + PREDICATE.of(input.word)) * input.vb / 8;
-    input.p[from..from + 2].copy_from_slice(&value.to_le_bytes());
-    let border = border.min(count) as u64 * 8;
-    if inverted {
-        (border, count as u64 * 8)
-    } else {
-        (0, border)
-    }
+    let value = counter_value(random, border * size, size, inverted, input.vb);
+    set_counter(value, class, input)
 }
 
-/// A counter, of any element size, by which the doublewords below a border are active, or those
-/// from it on; sometimes another one. In many of them bits above the count's highest are set.
-fn counter_value(random: &mut Random, border: usize, inverted: bool, vb: usize) -> u16 {
+/// Sets the counter to this value and tells where the active elements start.
+pub fn set_counter(value: u16, class: &Class, input: &mut Input) -> Vec<u64> {
+    let (vb, size) = (input.vb, class.esize / 8);
+    let from = (8 + PREDICATE.of(input.word)) * vb / 8;
+    input.p[from..from + 2].copy_from_slice(&value.to_le_bytes());
+    let mask = counter_to_predicate(&value.to_le_bytes(), vb);
+    let bytes = (0..class.elements(vb) * size).step_by(size);
+    bytes.filter(|&byte| mask[byte]).map(|byte| byte as u64).collect()
+}
+
+/// A counter, of any element size, by which the elements of so many bytes are active that start below
+/// a border, or those from it on, where they start an element of the counter; sometimes another one.
+/// In many of them bits above the count's highest are set.
+fn counter_value(
+    random: &mut Random,
+    border: usize,
+    size: usize,
+    inverted: bool,
+    vb: usize,
+) -> u16 {
     let lowest = random.below(4);
-    let each = 8 >> lowest;
-    let count = (border * each).saturating_sub(random.below(each)) as u16;
+    let each = size >> lowest;
+    let count = match each {
+        0 => border >> lowest,
+        _ => (border >> lowest).saturating_sub(random.below(each)),
+    } as u16;
     // A count of the mask's elements, all of them, has no room, and is said by the inverse of none.
     let (count, inverted) = match usize::from(count) << lowest {
         bytes if bytes == 4 * vb => (0, !inverted),
@@ -185,28 +199,43 @@ fn counter_value(random: &mut Random, border: usize, inverted: bool, vb: usize) 
     }
 }
 
-/// Where a store starts whose bytes from `low` to `high` are to lie in the window, or nearly.
-fn start(random: &mut Random, window: &Window, low: u64, high: u64) -> u64 {
+/// Where a store starts whose active elements, of so many bytes, are to lie in the window, or nearly.
+fn start(random: &mut Random, window: &Window, active: &[u64], size: u64) -> u64 {
     let length = window.length as u64;
+    let low = active.first().map_or(0, |first| *first);
+    let high = active.last().map_or(low, |last| last + size);
     let at_base = window.base.wrapping_sub(low);
     let at_end = window.base.wrapping_add(length).wrapping_sub(high);
-    let near = random.pick(&[0, 0, 0, 1, 7, 8]);
+    let near = random.pick(&[0, 0, 0, 1, size - 1, size]);
     match random.below(8) {
         0 => at_base.wrapping_add(near),
         1 => at_base.wrapping_sub(near),
         2 => at_end.wrapping_sub(near),
         3 => at_end.wrapping_add(near),
-        4 => at_end.wrapping_add(8 * random.below((high - low) as usize / 8 + 1) as u64),
+        4 if high > low => at_end.wrapping_add(high - random.pick(active)),
         5 => at_base.wrapping_add(near).wrapping_add(random.below(3) as u64),
         _ if length >= high - low => {
             at_base.wrapping_add(random.below((length - (high - low)) as usize + 1) as u64)
         }
-        _ => beside(random, window, 8),
+        _ => beside(random, window, size as usize),
     }
 }
 
-/// Nine times this is 1 modulo 2^64.
-const NINTH: u64 = 0x8E38_E38E_38E3_8E39;
+/// A register with which a base and an index of so many bytes, both of them this register, make an
+/// address; of an odd one and an index of bytes the address below.
+fn both(random: &mut Random, address: u64, size: u64) -> u64 {
+    match size {
+        1 => address >> 1 | random.number() & 1 << 63,
+        // What is odd has an inverse modulo 2^64: each step doubles its right bits.
+        _ => {
+            let odd = size + 1;
+            let step = |inverse: u64, _| {
+                inverse.wrapping_mul(2u64.wrapping_sub(odd.wrapping_mul(inverse)))
+            };
+            address.wrapping_mul((0..6).fold(1, step))
+        }
+    }
+}
 
 /// Sets the registers by which a strided store starts there.
 pub fn strided(random: &mut Random, class: &Class, start: u64, input: &mut Input) {
@@ -215,17 +244,18 @@ pub fn strided(random: &mut Random, class: &Class, start: u64, input: &mut Input
         _ => unreachable!("only a strided store has a start"),
     };
     let (m, n) = (INDEX.of(input.word), BASE.of(input.word));
+    let size = class.esize as u64 / 8;
     let base = match immediate {
         true => {
             let imm4 = (IMM4.of(input.word) as i64 ^ 8) - 8;
             start.wrapping_sub((imm4 * (registers * input.vb) as i64) as u64)
         }
-        false if m == n && m < R31 => start.wrapping_mul(NINTH),
+        false if m == n && m < R31 => both(random, start, size),
         false => {
             if m < R31 {
                 input.x[m] >>= random.pick(&[0, 0, 32, 52, 60]);
             }
-            start.wrapping_sub(input.x.get(m).unwrap_or(&0).wrapping_mul(8))
+            start.wrapping_sub(input.x.get(m).unwrap_or(&0).wrapping_mul(size))
         }
     };
     set_base(random, base, input);

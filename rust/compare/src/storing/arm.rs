@@ -190,7 +190,7 @@ pub fn base(input: &Input) -> u64 {
 }
 
 /// `X[m, 64]`, which is zero for 31.
-fn index(input: &Input) -> u64 {
+pub fn index(input: &Input) -> u64 {
     *input.x.get(INDEX.of(input.word)).unwrap_or(&0)
 }
 
@@ -237,6 +237,8 @@ fn quadword(input: &Input, class: &Class) -> Vec<Element> {
     (0..class.elements(input.vb)).map(of).collect()
 }
 
+/// Document 02 (vii): "The scalar index and the step from element to element are the element's bytes;
+/// an element's mask bit is its number times those bytes; the immediate displacement is unchanged."
 fn strided(input: &Input, class: &Class, registers: usize, immediate: bool) -> Vec<Element> {
     let (word, bytes) = (input.word, class.esize / 8);
     let mask = counter_to_predicate(counter(input), input.vb);

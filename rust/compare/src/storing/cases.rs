@@ -1,7 +1,7 @@
 //! The scope paper's cases, asked of the independent model and of the library.
 
 use super::arm::*;
-use super::classes::{BESIDE, CLASSES};
+use super::classes::{BESIDE, CLASSES, INDEX};
 use super::input::Input;
 use super::wrong::right;
 use super::Store;
@@ -42,8 +42,8 @@ fn left(input: &Input, room: usize) -> Left {
 /// The answer in a buffer with room for every patch, of a store that leaves both buffers as they came
 /// where it is refused.
 fn answer(input: &Input) -> Outcome<6> {
-    let Left { verdict, numbers, memory, buffer } = left(input, 1_040);
-    assert!(verdict == DONE || memory == input.memory && buffer == [0x77; 1_040]);
+    let Left { verdict, numbers, memory, buffer } = left(input, 6_660);
+    assert!(verdict == DONE || memory == input.memory && buffer == [0x77; 6_660]);
     Outcome { verdict, numbers }
 }
 
@@ -71,7 +71,7 @@ fn address(input: &Input, e: u64) -> u64 {
 
 /// The numbers of the active elements.
 fn active(input: &Input) -> Vec<u64> {
-    (0..1000).filter(|&e| inspected(input, e).1[0] == 1).collect()
+    (0..1_024).filter(|&e| inspected(input, e).1[0] == 1).collect()
 }
 
 /// A machine with VB 16, all features, X0 = 1000h, every predicate and other register 0, and 256
@@ -220,7 +220,7 @@ fn halfwords_and_words() {
 /// Those of classes 13 to 24 need the SVE flag, and FA64 in streaming mode; SP is checked.
 #[test]
 fn refusals_of_halfwords_and_words() {
-    for class in &CLASSES[12..] {
+    for class in &CLASSES[12..24] {
         let store = over(256, &input(class.base | 31 << 5));
         let with = |flags: u32, sp| {
             let mut store = store.clone();
@@ -338,11 +338,18 @@ fn nothing_active_and_no_memory() {
     assert_eq!(left(&none, 3).verdict, NO_ROOM);
 }
 
-#[test]
-fn the_largest_patch_of_a_store() {
+/// Four registers of VB 256 under a counter, of the class with this base word.
+fn four_registers(word: u32, counter: u16) -> Input {
     let (z, p) = ((0..32 * 256).map(|index| (index / 7) as u8).collect(), vec![0xFF; 2 * 256]);
-    let mut four = Input { vb: 256, z, p, base: 0x1000, ..strided(0xA13F_E000, 0) };
-    four.p[256..258].copy_from_slice(&0x8008u16.to_le_bytes());
+    let mut four = Input { vb: 256, z, p, base: 0x1000, ..strided(word | 31 << 16, 0) };
+    four.p[256..258].copy_from_slice(&counter.to_le_bytes());
+    four
+}
+
+/// Four whole registers are one run.
+#[test]
+fn the_largest_run_of_a_store() {
+    let four = four_registers(0xA120_E000, 0x8008);
     let registers = [0, 4, 8, 12].map(|register| &four.z[register * 256..][..256]).concat();
     let head = [0x50, 0x52, 0x00, 0x10, 0, 0, 0, 0, 0, 0, 0x00, 0x04];
     let patch = [&head[..], &registers, &[0x50, 0x45, 1, 0]].concat();
@@ -352,6 +359,157 @@ fn the_largest_patch_of_a_store() {
     assert_eq!((left(&whole, 1_040).memory, left(&whole, 1_040).buffer), (registers, patch));
     assert_eq!(left(&whole, 1_039).verdict, NO_ROOM);
     assert_eq!(answer(&over(1_023, &four)), faulting(127, 0x13FF));
+    for (word, size) in [(0xA120_8000, 1), (0xA120_A000, 2), (0xA120_C000, 4)] {
+        for unit in [1, 2, 4].into_iter().filter(|&unit| unit <= size) {
+            let narrow = over(1_024, &four_registers(word, 0x8000 | unit as u16));
+            assert_eq!(answer(&narrow), done(1_024 / size, 1_024, 1_040, 1), "{word:08X}");
+            let Left { memory, buffer, .. } = left(&narrow, 1_040);
+            assert_eq!((memory, buffer), (left(&whole, 1_040).memory, left(&whole, 1_040).buffer));
+        }
+        let short = over(1_023, &four_registers(word, 0x8001));
+        assert_eq!(answer(&short), faulting(1_024 / size - 1, 0x13FF));
+    }
+}
+
+/// Document 02 (vii): "A byte store under a halfword counter writes every second byte, so 512 runs can
+/// occur. .. the largest store patch is 6,660 bytes".
+#[test]
+fn the_largest_patch_of_a_store() {
+    let four = four_registers(0xA120_8000, 0x8002);
+    let registers = [0, 4, 8, 12].map(|register| &four.z[register * 256..][..256]).concat();
+    let mut patch = Vec::new();
+    for (at, byte) in registers.iter().enumerate().step_by(2) {
+        patch.extend([
+            0x50,
+            0x52,
+            at as u8,
+            0x10 + (at / 256) as u8,
+            0,
+            0,
+            0,
+            0,
+            0,
+            0,
+            1,
+            0,
+            *byte,
+        ]);
+    }
+    patch.extend([0x50, 0x45, 0x00, 0x02]);
+    assert_eq!(patch.len(), 6_660);
+    let every_second = over(1_023, &four);
+    assert_eq!(answer(&every_second), done(512, 512, 6_660, 512));
+    let Left { memory, buffer, .. } = left(&every_second, 6_660);
+    assert_eq!(buffer, patch);
+    for (at, byte) in memory.iter().enumerate() {
+        assert_eq!(*byte, if at % 2 == 0 { registers[at] } else { 0x77 });
+    }
+    for room in [0, 1_040, 6_659] {
+        assert_eq!(left(&every_second, room).verdict, NO_ROOM);
+    }
+    assert_eq!(answer(&over(1_022, &four)), faulting(1_022, 0x13FE));
+    // A count of 511 halfwords leaves the last out.
+    assert_eq!(
+        answer(&over(1_023, &four_registers(0xA120_8000, 0x07FE))),
+        done(511, 511, 6_647, 511)
+    );
+}
+
+/// Bytes under counters of 16, 32 and 64 bits, halfwords under 32 and 64, words under 64: elements, and
+/// runs of one each.
+#[test]
+fn gaps() {
+    for (word, size) in [(0xA120_8000, 1), (0xA120_A000, 2), (0xA120_C000, 4)] {
+        for unit in [2, 4, 8].into_iter().filter(|&unit| unit > size) {
+            let store = over(1_024, &four_registers(word, 0x8000 | unit as u16));
+            let count = 1_024 / unit;
+            assert_eq!(answer(&store), done(count, count * size, 4 + count * (12 + size), count));
+            let step = (unit / size) as usize;
+            let numbers: Vec<u64> = (0..1024 / size).step_by(step).collect();
+            assert_eq!(active(&store), numbers);
+        }
+    }
+}
+
+/// Counters over two registers of VB 16, for each element size: the mask bit of an element is its
+/// number times its bytes.
+#[test]
+fn narrow_counters_over_two_registers() {
+    let cases: [(u32, u16, &[u64]); 14] = [
+        (0xA120_0000, 0x0003, &[0]),
+        (0xA120_0000, 0x0007, &[0, 1, 2]),
+        (0xA120_0000, 0x0006, &[0]),
+        (0xA120_0000, 0x000A, &[0, 2]),
+        (0xA120_0000, 0x0018, &[0]),
+        (0xA120_0000, 0x8038, &[24]),
+        (0xA120_0000, 0x0014, &[0, 4]),
+        (0xA120_0000, 0x8000, &[]),
+        (0xA120_2000, 0x0003, &[0]),
+        (0xA120_2000, 0x0005, &[0]),
+        (0xA120_2000, 0x0007, &[0, 1]),
+        (0xA120_2000, 0x8038, &[12]),
+        (0xA120_4000, 0x0013, &[0, 1, 2]),
+        (0xA120_4000, 0x8018, &[2, 4, 6]),
+    ];
+    for (word, counter, elements) in cases {
+        assert_eq!(active(&strided(word, counter)), elements, "{word:08X}, {counter:04X}");
+    }
+    // "The bits above it up to 14 are ignored."
+    assert_eq!(active(&strided(0xA120_0000, 0x0405)), [0, 1]);
+    assert_eq!(active(&strided(0xA120_0000, 0xFF80)), []);
+}
+
+/// "The scalar index and the step from element to element are the element's bytes", "the immediate
+/// displacement is unchanged".
+#[test]
+fn addresses_of_narrow_strided_stores() {
+    for (form, size) in [(0x0000, 1), (0x2000, 2), (0x4000, 4), (0x6000, 8)] {
+        for four in [0, 0x8000] {
+            let mut scalar = strided(0xA122_0000 | form | four, 0);
+            scalar.x[2] = 3;
+            assert_eq!(
+                [0, 1, 3].map(|e| address(&scalar, e)),
+                [3, 4, 6].map(|k| 0x1000 + k * size)
+            );
+            scalar.x[2] = 0u64.wrapping_sub(2);
+            assert_eq!(address(&scalar, 0), 0x1000 - 2 * size);
+            scalar.x[2] = (1 << 63) + 1;
+            let top = if size == 1 { 1 << 63 } else { 0 };
+            assert_eq!(address(&scalar, 0), 0x1000 + top + size);
+            let registers = if four == 0 { 2 } else { 4 };
+            let immediate = strided(0xA16F_0000 | form | four, 0);
+            assert_eq!(address(&immediate, 0), 0x1000 - registers * 16);
+            assert_eq!(address(&immediate, 3), 0x1000 - registers * 16 + 3 * size);
+            let each = 16 / size;
+            let indices = [0, each - 1, each].map(|e| inspected(&immediate, e).1[2]);
+            assert_eq!(indices, [0, 16 - size, 16 * 16 / registers]);
+            assert_eq!(inspected(&immediate, 0).1[3..], [size, registers * each]);
+        }
+    }
+}
+
+/// Those of classes 25 to 36 need the SME2 flag and streaming mode; SP is checked.
+#[test]
+fn refusals_of_narrow_strided_stores() {
+    for class in &CLASSES[24..] {
+        let with = |flags: u32, sp| {
+            let index = INDEX.mask() & !class.free() == 0;
+            let zero = if index { INDEX.mask() } else { 0 };
+            let word = class.base | zero | 31 << 5;
+            let mut store = over(256, &strided(word, 0x0003));
+            (store.flags, store.sp, store.base) = (flags.into(), sp, sp);
+            answer(&store).verdict
+        };
+        let [sme2, streaming, checked] = [SME2, STREAMING, SP_CHECK].map(|bit| 1 << bit);
+        assert_eq!(with(sme2 | streaming, 0x1000), DONE);
+        assert_eq!(with(1 << SVE | 1 << SVE2P1 | streaming, 0x1000), UNDEFINED);
+        assert_eq!(with(sme2, 0x1000), ILLEGAL);
+        assert_eq!(with(sme2 | 1 << FA64, 0x1000), ILLEGAL);
+        assert_eq!(with(0, 0x1000), UNDEFINED);
+        assert_eq!(with(sme2 | streaming | checked, 0x1000), DONE);
+        assert_eq!(with(sme2 | streaming | checked, 0x1008), STACK);
+        assert_eq!(with(sme2 | checked, 0x1008), ILLEGAL);
+    }
 }
 
 #[test]

@@ -1,5 +1,5 @@
 //! The classes of stores as the scope paper's table lists them; behind it those of halfwords and
-//! words, from document 02 (i).
+//! words, from document 02 (i), and the narrow strided ones, from document 02 (vii).
 
 /// Bits of a word, from the highest to the lowest.
 #[derive(Clone, Copy)]
@@ -36,7 +36,7 @@ impl Field {
 pub enum Form {
     /// A scalar base plus a vector of offsets, of which so many low bits count.
     Scatter { offset: usize, scale: u32 },
-    /// From this many registers to one stretch; by an immediate or a scalar index.
+    /// From this many registers, one element behind the other; by an immediate or a scalar index.
     Strided { registers: usize, immediate: bool },
     /// A vector of bases plus a scalar offset.
     Quadword,
@@ -83,6 +83,18 @@ pub const CLASSES: &[Class] = &[
     class(0xE500_A000, PLAIN, 64, 32, Form::Scatter { offset: 64, scale: 0 }),
     class(0xE560_8000, UNPACKED, 32, 32, Form::Scatter { offset: 32, scale: 2 }),
     class(0xE540_8000, UNPACKED, 32, 32, Form::Scatter { offset: 32, scale: 0 }),
+    class(0xA120_0000, TWO, 8, 8, Form::Strided { registers: 2, immediate: false }),
+    class(0xA120_8000, FOUR, 8, 8, Form::Strided { registers: 4, immediate: false }),
+    class(0xA160_0000, TWO_IMMEDIATE, 8, 8, Form::Strided { registers: 2, immediate: true }),
+    class(0xA160_8000, FOUR_IMMEDIATE, 8, 8, Form::Strided { registers: 4, immediate: true }),
+    class(0xA120_2000, TWO, 16, 16, Form::Strided { registers: 2, immediate: false }),
+    class(0xA120_A000, FOUR, 16, 16, Form::Strided { registers: 4, immediate: false }),
+    class(0xA160_2000, TWO_IMMEDIATE, 16, 16, Form::Strided { registers: 2, immediate: true }),
+    class(0xA160_A000, FOUR_IMMEDIATE, 16, 16, Form::Strided { registers: 4, immediate: true }),
+    class(0xA120_4000, TWO, 32, 32, Form::Strided { registers: 2, immediate: false }),
+    class(0xA120_C000, FOUR, 32, 32, Form::Strided { registers: 4, immediate: false }),
+    class(0xA160_4000, TWO_IMMEDIATE, 32, 32, Form::Strided { registers: 2, immediate: true }),
+    class(0xA160_C000, FOUR_IMMEDIATE, 32, 32, Form::Strided { registers: 4, immediate: true }),
 ];
 
 const fn class(
@@ -117,7 +129,9 @@ pub fn class_of(word: u32) -> Option<usize> {
 }
 
 /// Words beside the classes of scatter stores that belong to none: scaled stores of bytes, doublewords
-/// out of elements of 32 bits, and 64-bit offsets with bits 22..21 as 10 and 11.
+/// out of elements of 32 bits, and 64-bit offsets with bits 22..21 as 10 and 11. Behind them words
+/// beside the narrow strided stores: STNT1B, STNT1H and STNT1W (bit 3), bit 2 or 3 where there are four
+/// registers, bit 20 with an immediate, and loads (bit 21).
 #[cfg(test)]
 pub const BESIDE: &[u32] = &[
     0xE420_8000,
@@ -137,6 +151,23 @@ pub const BESIDE: &[u32] = &[
     0xE560_A000,
     0xE5C0_A000,
     0xE5E0_A000,
+    0xA120_0008,
+    0xA120_2008,
+    0xA120_4008,
+    0xA160_0008,
+    0xA160_2008,
+    0xA160_4008,
+    0xA120_8004,
+    0xA120_A008,
+    0xA120_C00C,
+    0xA160_8004,
+    0xA160_A008,
+    0xA160_C00C,
+    0xA170_0000,
+    0xA170_A000,
+    0xA170_4000,
+    0xA100_0000,
+    0xA140_A000,
 ];
 
 #[cfg(test)]

@@ -1,11 +1,12 @@
-//! Every counter at every vector length, over two registers and over four: which elements are active,
-//! and what the store writes.
+//! Every counter at every vector length, over two registers and over four, for each element size: which
+//! elements are active, and what the store writes.
 
 use super::arm::{self, mask_up_to, Element, LENGTHS, SME2, STREAMING};
 use super::classes::{Form, CLASSES, PREDICATE};
 use super::input::Input;
 use super::Store;
 use crate::counts::Counts;
+use crate::patches::reader::{RUN_MARK, TRAILER_MARK};
 use crate::random::Random;
 use crate::reference::Outcome;
 use crate::report::{answers, first_difference, Report};
@@ -17,10 +18,59 @@ use starshackle::Window;
 /// How many counters there are.
 const COUNTERS: u32 = 1 << 16;
 /// The classes of strided stores, by number.
-pub const STRIDED: &[u64] = &[8, 9, 10, 11];
+pub const STRIDED: &[u64] = &[8, 9, 10, 11, 25, 26, 27, 28, 29, 30, 31, 32, 33, 34, 35, 36];
+/// Those of them whose elements are narrower than doublewords, so that a counter may leave gaps.
+pub const NARROW: &[u64] = &[25, 26, 27, 28, 29, 30, 31, 32, 33, 34, 35, 36];
 const BASE: u64 = 0x1000;
-/// Kinds of rows, of each of which there is one for each vector length.
-const KINDS: [&str; 4] = ["counters", "ignored bits set", "ignored bits decide", "highest decides"];
+/// Room for each store's patch.
+const ROOM: usize = 6_660;
+
+/// A kind of counters, and the classes that have it.
+struct Kind {
+    name: &'static str,
+    classes: &'static [u64],
+    holds: fn(&Case, u16) -> bool,
+}
+
+/// Of each kind there is a row for each vector length.
+const KINDS: &[Kind] = &[
+    kind("counters", STRIDED, |_, _| true),
+    kind("ignored bits set", STRIDED, |case, counter| {
+        let highest = arm::maxbit(case.input.vb);
+        counter & 15 != 0 && (highest + 1..15).any(|bit| counter >> bit & 1 == 1)
+    }),
+    kind("ignored bits decide", STRIDED, |case, counter| {
+        counter >> (arm::maxbit(case.input.vb) + 1) != 0 && case.is_other_up_to(14, counter)
+    }),
+    kind("highest decides", STRIDED, |case, counter| {
+        let highest = arm::maxbit(case.input.vb);
+        counter >> highest & 1 == 1 && case.is_other_up_to(highest - 1, counter)
+    }),
+    kind("no size", STRIDED, |_, counter| has_size(counter, 0, false)),
+    kind("no size, bit 15", STRIDED, |_, counter| has_size(counter, 0, true)),
+    kind("size 8", STRIDED, |_, counter| has_size(counter, 8, false)),
+    kind("size 8, bit 15", STRIDED, |_, counter| has_size(counter, 8, true)),
+    kind("size 16", STRIDED, |_, counter| has_size(counter, 16, false)),
+    kind("size 16, bit 15", STRIDED, |_, counter| has_size(counter, 16, true)),
+    kind("size 32", STRIDED, |_, counter| has_size(counter, 32, false)),
+    kind("size 32, bit 15", STRIDED, |_, counter| has_size(counter, 32, true)),
+    kind("size 64", STRIDED, |_, counter| has_size(counter, 64, false)),
+    kind("size 64, bit 15", STRIDED, |_, counter| has_size(counter, 64, true)),
+    kind("all active", STRIDED, |case, _| case.active().count() == case.elements.len()),
+    kind("gaps", NARROW, |case, _| {
+        case.active().zip(case.active().skip(1)).any(|(one, next)| one.end() < next.address.into())
+    }),
+];
+
+const fn kind(name: &'static str, classes: &'static [u64], holds: fn(&Case, u16) -> bool) -> Kind {
+    Kind { name, classes, holds }
+}
+
+/// Whether a counter has this element size, 0 for none, and is or isn't inverted.
+fn has_size(counter: u16, size: u16, inverted: bool) -> bool {
+    let own = if counter & 15 == 0 { 0 } else { 8 << counter.trailing_zeros() };
+    own == size && counter >> 15 == u16::from(inverted)
+}
 
 /// What was compared: rows by class.
 struct Tally {
@@ -31,27 +81,18 @@ struct Tally {
 
 impl Tally {
     fn new() -> Tally {
-        let row = |vb: usize, kind: &str| (format!("VB {vb}, class, {kind}"), STRIDED);
+        let row = |vb: usize, kind: &Kind| (format!("VB {vb}, class, {}", kind.name), kind.classes);
         let rows = KINDS.iter().flat_map(|kind| LENGTHS.map(|vb| row(vb, kind)));
         Tally { counters: 0, elements: 0, counts: Counts::new(rows) }
     }
 
     fn count(&mut self, case: &Case, counter: u16) {
-        let bytes = counter.to_le_bytes();
-        let highest = arm::maxbit(case.input.vb);
-        let has_size = counter & 15 != 0;
-        let decides = |highest| !case.is_active_by(&mask_up_to(highest, &bytes, case.input.vb));
-        let hits = [
-            true,
-            has_size && (highest + 1..15).any(|bit| counter >> bit & 1 == 1),
-            decides(14),
-            decides(highest - 1),
-        ];
-        for (kind, _) in hits.iter().enumerate().filter(|(_, &hit)| hit) {
-            self.counts.hit(kind * LENGTHS.len() + case.length, Some(case.class));
+        for (number, _) in KINDS.iter().enumerate().filter(|(_, kind)| (kind.holds)(case, counter))
+        {
+            self.counts.hit(number * LENGTHS.len() + case.length, Some(case.class));
         }
         self.counters += 1;
-        self.elements += case.elements.len() as u64;
+        self.elements += case.looked_at(counter).count() as u64;
     }
 
     fn add(&mut self, other: &Tally) {
@@ -69,8 +110,8 @@ impl Tally {
 
 /// Compares the model on all counters, its elements too.
 pub fn run(report: &Report, threads: usize) {
-    let tally = with_each(report, threads, |case| {
-        case.compare_elements(report);
+    let tally = with_each(report, threads, &all(), |case, counter| {
+        case.compare_elements(report, counter);
         case.compare_store(report, &starshackle::store_numbers);
     });
     tally.print(report);
@@ -78,24 +119,33 @@ pub fn run(report: &Report, threads: usize) {
 
 /// Compares an implementation on all counters.
 pub fn compare(report: &Report, store: &Store, threads: usize) {
-    with_each(report, threads, |case| case.compare_store(report, store));
+    with_each(report, threads, &all(), |case, _| case.compare_store(report, store));
 }
 
-/// Compares each class with each counter at each length.
-fn with_each(report: &Report, threads: usize, compare: impl Fn(&Case) + Sync) -> Tally {
+/// Each class at each length, which is given by its place among the lengths.
+fn all() -> Vec<(usize, u64)> {
+    let lengths = 0..LENGTHS.len();
+    lengths.flat_map(|length| STRIDED.iter().map(move |&class| (length, class))).collect()
+}
+
+/// Compares classes at lengths with each counter.
+fn with_each(
+    report: &Report,
+    threads: usize,
+    cases: &[(usize, u64)],
+    compare: impl Fn(&Case, u16) + Sync,
+) -> Tally {
     let work = |first| {
         let mut tally = Tally::new();
-        for length in 0..LENGTHS.len() {
-            for &class in STRIDED {
-                let mut case = Case::new(length, class);
-                for counter in (first as u32..COUNTERS).step_by(threads) {
-                    if report.is_full() {
-                        return tally;
-                    }
-                    case.give(counter as u16);
-                    compare(&case);
-                    tally.count(&case, counter as u16);
+        for &(length, class) in cases {
+            let mut case = Case::new(length, class);
+            for counter in (first as u32..COUNTERS).step_by(threads) {
+                if report.is_full() {
+                    return tally;
                 }
+                case.give(counter as u16);
+                compare(&case, counter as u16);
+                tally.count(&case, counter as u16);
             }
         }
         tally
@@ -110,6 +160,8 @@ struct Case {
     /// Which of the lengths it is.
     length: usize,
     class: u64,
+    /// The bytes of an element.
+    size: usize,
     input: Input,
     elements: Vec<Element>,
 }
@@ -119,16 +171,17 @@ impl Case {
         let vb = LENGTHS[length];
         let mut random = Random::new(vb as u64 + class);
         let of = &CLASSES[class as usize - 1];
-        // Rn is X1, Rm X2 or the immediate 0, and each class has a counter's register of its own.
+        let size = of.esize / 8;
+        // Rn is X1, Rm X2 or the immediate 0, and the counter's register goes by the class.
         let index = matches!(of.form, Form::Strided { immediate: false, .. });
-        let word = of.base | u32::from(index) << 17 | (class as u32 - 5) << 10 | 1 << 5;
+        let word = of.base | u32::from(index) << 17 | (class as u32 % 8) << 10 | 1 << 5;
         let mut x = [(); 31].map(|()| random.number());
-        (x[1], x[2]) = (if index { BASE - 8 * 3 } else { BASE }, 3);
+        (x[1], x[2]) = (if index { BASE - 3 * size as u64 } else { BASE }, 3);
         let (z, p, memory) = (random.bytes(32 * vb), random.bytes(2 * vb), random.bytes(4 * vb));
         let flags = 1 << SME2 | 1 << STREAMING;
         let input = Input { vb, flags, x, sp: 0, z, p, base: BASE, memory, word };
         let elements = arm::elements(&input).expect("a store of the class");
-        Case { length, class, input, elements }
+        Case { length, class, size, input, elements }
     }
 
     /// Gives the store a counter.
@@ -137,19 +190,32 @@ impl Case {
         let from = (8 + PREDICATE.of(word)) * vb / 8;
         p[from..from + 2].copy_from_slice(&counter.to_le_bytes());
         let mask = arm::counter_to_predicate(arm::counter(&self.input), vb);
-        for (element, mask) in self.elements.iter_mut().zip(mask.chunks(8)) {
+        for (element, mask) in self.elements.iter_mut().zip(mask.chunks(self.size)) {
             element.active = mask[0];
         }
     }
 
-    /// Whether the active elements are those of a mask.
-    fn is_active_by(&self, mask: &[bool]) -> bool {
-        self.elements.iter().zip(mask.chunks(8)).all(|(element, mask)| element.active == mask[0])
+    fn active(&self) -> impl Iterator<Item = &Element> + Clone {
+        self.elements.iter().filter(|element| element.active)
     }
 
-    fn compare_elements(&self, report: &Report) {
+    /// Whether other elements would be active if the count went up to this bit.
+    fn is_other_up_to(&self, highest: usize, counter: u16) -> bool {
+        let mask = mask_up_to(highest, &counter.to_le_bytes(), self.input.vb);
+        let mut pairs = self.elements.iter().zip(mask.chunks(self.size));
+        pairs.any(|(element, mask)| element.active != mask[0])
+    }
+
+    /// The elements that are compared one by one: as many as there are doublewords, of narrower ones
+    /// others for each counter.
+    fn looked_at(&self, counter: u16) -> impl Iterator<Item = (usize, &Element)> {
+        let step = 8 / self.size;
+        self.elements.iter().enumerate().skip(usize::from(counter >> 4) % step).step_by(step)
+    }
+
+    fn compare_elements(&self, report: &Report, counter: u16) {
         let machine = self.input.machine();
-        for (e, element) in self.elements.iter().enumerate() {
+        for (e, element) in self.looked_at(counter) {
             let mut numbers = [GARBAGE; 5];
             let word = self.input.word;
             let verdict = starshackle::element_numbers(&machine, word, e as u64, &mut numbers);
@@ -162,25 +228,48 @@ impl Case {
         }
     }
 
-    /// Compares what the store answers and leaves in memory.
+    /// The patch, and how many runs it has, which ascend as the elements do: one for each active element
+    /// that doesn't start where the one before it ends.
+    fn patch(&self) -> (u16, Vec<u8>) {
+        let (mut runs, mut head, mut end) = (0u16, 0, None);
+        let mut patch = Vec::with_capacity(ROOM);
+        for element in self.active() {
+            if end != Some(u128::from(element.address)) {
+                (runs, head) = (runs + 1, patch.len());
+                patch.extend(RUN_MARK);
+                patch.extend(element.address.to_le_bytes());
+                patch.extend([0, 0]);
+            }
+            patch.extend((0..self.size).map(|k| element.byte(k)));
+            let length = (patch.len() - head - 12) as u16;
+            patch[head + 10..head + 12].copy_from_slice(&length.to_le_bytes());
+            end = Some(element.end());
+        }
+        patch.extend(TRAILER_MARK);
+        patch.extend(runs.to_le_bytes());
+        (runs, patch)
+    }
+
+    /// Compares what the store answers and leaves in memory and in a buffer.
     fn compare_store(&self, report: &Report, store: &Store) {
         let Input { base, word, ref memory, .. } = self.input;
         let (mut left, mut right) = (memory.clone(), memory.clone());
-        let (mut patch, mut numbers) = ([0; 1_040], [GARBAGE; 6]);
+        let (mut buffer, mut numbers) = ([0; ROOM], [GARBAGE; 6]);
         let window = Window { base, memory: &mut left };
         let machine = self.input.machine();
-        let verdict = store(&machine, window, word, &mut patch, &mut numbers);
+        let verdict = store(&machine, window, word, &mut buffer, &mut numbers);
         let model = Outcome { verdict, numbers };
         arm::write(base, &self.elements, &mut right);
-        let active = self.elements.iter().filter(|element| element.active).count() as u64;
-        // Those that are active are one run and one step, or none.
-        let runs = active.min(1);
-        let numbers = [0, 0, active, 8 * active, 12 * runs + 8 * active + 4, runs];
+        let active = self.active().count() as u64;
+        let (runs, patch) = self.patch();
+        let bytes = self.size as u64 * active;
+        let numbers = [0, 0, active, bytes, patch.len() as u64, runs.into()];
         let outcome = Outcome { verdict: DONE, numbers };
-        if !model.is(&outcome) || left != right {
+        if !model.is(&outcome) || left != right || buffer[..patch.len()] != patch {
             report.tell(|| {
                 let memory = first_difference("memory", &left, &right, 0);
-                format!("{}\n{}{memory}", self.input.text(), answers(&model, &outcome))
+                let buffer = first_difference("buffer", &buffer, &patch, 0);
+                format!("{}\n{}{memory}{buffer}", self.input.text(), answers(&model, &outcome))
             });
         }
     }
@@ -202,7 +291,7 @@ mod tests {
             verdict
         };
         let report = Report::default();
-        compare(&report, wrong, 2);
+        with_each(&report, 2, &[(number, class)], |case, _| case.compare_store(&report, wrong));
         assert_eq!(report.differences(), 1, "{counter:04X}");
     }
 
@@ -211,6 +300,9 @@ mod tests {
         is_found(16, 8, 0x0418);
         is_found(128, 11, 0xFFFF);
         is_found(256, 9, 0x0000);
+        is_found(256, 26, 0x8002);
+        is_found(32, 31, 0x0054);
+        is_found(64, 36, 0x9018);
     }
 
     #[test]

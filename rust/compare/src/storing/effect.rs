@@ -3,7 +3,7 @@
 
 use super::arm::Element;
 use super::joints::{joints, Joint};
-use crate::patches::reader::{encoding, runs, Writes};
+use crate::patches::reader::{encoding, runs, Writes, SIZES};
 use crate::reference::Outcome;
 use crate::verdicts::{DONE, NO_ROOM};
 
@@ -35,7 +35,7 @@ impl Effect {
         }
         let steps = active - joints(elements).filter(Joint::touches).count();
         let runs = runs(&writes);
-        let patch = encoding(&writes, &runs).expect("a store's effect is within the sizes");
+        let patch = encoding(&writes, &runs, SIZES).expect("a store's effect is within the sizes");
         Effect { active, moved, runs: runs.len(), patch, steps }
     }
 

@@ -19,11 +19,10 @@ pub fn input(number: u64) -> Input {
     let wanted = wanted(&mut random, class, &window);
     match class.form {
         Form::Strided { .. } => {
-            let (low, high) = counter(&mut random, class, &mut input);
-            let active = (high - low) as usize / 8;
+            let active = counter(&mut random, class, &mut input);
             // In half of the stores it is the first active element.
-            let number = random.below(2) * random.below(active.max(1));
-            let start = wanted.wrapping_sub(low + 8 * number as u64);
+            let number = random.below(2) * random.below(active.len().max(1));
+            let start = wanted.wrapping_sub(*active.get(number).unwrap_or(&0));
             strided(&mut random, class, start, &mut input);
         }
         _ => {

@@ -39,10 +39,12 @@ pub struct Kind {
 }
 
 /// Classes whose elements have several bytes.
-const WIDE: &[u64] =
-    &[1, 2, 3, 4, 8, 9, 10, 11, 12, 13, 14, 15, 16, 17, 18, 19, 20, 21, 22, 23, 24];
+const WIDE: &[u64] = &[
+    1, 2, 3, 4, 8, 9, 10, 11, 12, 13, 14, 15, 16, 17, 18, 19, 20, 21, 22, 23, 24, 29, 30, 31, 32,
+    33, 34, 35, 36,
+];
 /// Those of them whose elements have more than two.
-const LONG: &[u64] = &[1, 2, 3, 4, 8, 9, 10, 11, 12, 19, 20, 21, 22, 23, 24];
+const LONG: &[u64] = &[1, 2, 3, 4, 8, 9, 10, 11, 12, 19, 20, 21, 22, 23, 24, 33, 34, 35, 36];
 
 pub const KINDS: &[Kind] = &[
     kind("below the window", CLASS, |input, element| element.end() <= start(input)),

@@ -2,7 +2,7 @@
 
 use super::arm::{self, mask_up_to, maxbit, Element, SP_CHECK, STREAMING};
 use super::classes::{class_of, Form, BASE, CLASSES, R31, XS};
-use super::counters::STRIDED;
+use super::counters::{NARROW, STRIDED};
 use super::effect::Effect;
 use super::joints::joints;
 use super::subject::Subject;
@@ -16,8 +16,10 @@ pub struct Group {
     pub of: fn(&Subject) -> Option<u64>,
 }
 
-pub const CLASS: &[u64] =
-    &[1, 2, 3, 4, 5, 6, 7, 8, 9, 10, 11, 12, 13, 14, 15, 16, 17, 18, 19, 20, 21, 22, 23, 24];
+pub const CLASS: &[u64] = &[
+    1, 2, 3, 4, 5, 6, 7, 8, 9, 10, 11, 12, 13, 14, 15, 16, 17, 18, 19, 20, 21, 22, 23, 24, 25, 26,
+    27, 28, 29, 30, 31, 32, 33, 34, 35, 36,
+];
 pub const SCATTER: &[u64] =
     &[1, 2, 3, 4, 5, 6, 7, 12, 13, 14, 15, 16, 17, 18, 19, 20, 21, 22, 23, 24];
 /// Classes whose addresses need not be multiples of anything.
@@ -28,14 +30,31 @@ const OVERLAPPING: &[u64] = &[2, 4, 12, 14, 16, 18, 20, 22, 24];
 const FROM_BASE: &[u64] = &[1, 2, 3, 4, 5, 6, 7, 13, 14, 15, 16, 17, 18, 19, 20, 21, 22, 23, 24];
 /// Those of them whose offsets are extended.
 const EXTENDED: &[u64] = &[1, 2, 5, 6, 13, 14, 17, 18, 19, 20, 23, 24];
-const FROM_SP: &[u64] =
-    &[1, 2, 3, 4, 5, 6, 7, 8, 9, 10, 11, 13, 14, 15, 16, 17, 18, 19, 20, 21, 22, 23, 24];
+const FROM_SP: &[u64] = &[
+    1, 2, 3, 4, 5, 6, 7, 8, 9, 10, 11, 13, 14, 15, 16, 17, 18, 19, 20, 21, 22, 23, 24, 25, 26, 27,
+    28, 29, 30, 31, 32, 33, 34, 35, 36,
+];
+/// Classes whose active elements may lie apart, in ascending order or not.
+pub const APART: &[u64] = &[
+    1, 2, 3, 4, 5, 6, 7, 12, 13, 14, 15, 16, 17, 18, 19, 20, 21, 22, 23, 24, 25, 26, 27, 28, 29,
+    30, 31, 32, 33, 34, 35, 36,
+];
+/// Classes that may leave one byte unwritten between two elements.
+pub const ONE_APART: &[u64] = &[2, 4, 5, 6, 7, 12, 14, 16, 18, 20, 22, 24, 25, 26, 27, 28];
+/// Strided stores by their elements: bytes, and what isn't doublewords or words.
+const BYTES: &[u64] = &[25, 26, 27, 28];
+const SHORT: &[u64] = &[25, 26, 27, 28, 29, 30, 31, 32];
+/// Strided stores whose elements are wider than bytes.
+const WIDER: &[u64] = &[8, 9, 10, 11, 29, 30, 31, 32, 33, 34, 35, 36];
 const VERDICT: &[u64] = &[0, 1, 2, 3, 4, 5, 6, 7];
 const VB: &[u64] = &[16, 32, 64, 128, 256];
 const SIZE: &[u64] = &[0, 8, 16, 32, 64];
 const BITS: &[u64] = &[0, 1, 2, 3];
-const RUNS: &[u64] = &[0, 1, 2, 3, 4, 7, 8, 15, 16, 31, 32, 33, 63, 64];
-const STEPS: &[u64] = &[0, 1, 2, 3, 4, 7, 8, 15, 16, 31, 32, 33, 63, 64];
+const RUNS: &[u64] =
+    &[0, 1, 2, 3, 4, 7, 8, 15, 16, 31, 32, 33, 63, 64, 65, 66, 127, 128, 255, 256, 510, 511, 512];
+const STEPS: &[u64] = RUNS;
+const LENGTH: &[u64] =
+    &[4, 17, 18, 20, 24, 32, 836, 849, 900, 1028, 1040, 2052, 3332, 3588, 6647, 6660];
 const PAYLOAD: &[u64] = &[0, 1, 2, 7, 8, 9, 16, 64, 256, 512, 1016, 1024];
 const BYTE_OF_8: &[u64] = &[0, 1, 2, 3, 4, 5, 6, 7];
 const BYTE_OF_16: &[u64] = &[0, 1, 2, 3, 4, 5, 6, 7, 8, 9, 10, 11, 12, 13, 14, 15];
@@ -76,9 +95,32 @@ pub const GROUPS: &[Group] = &[
         s.class_where(|s, _| s.streaming(false) == Some(3))
     }),
     group("class, SP as base, done", FROM_SP, |s| s.class_where(|s, _| s.is_from_sp())),
-    group("word of no class, by its place", &[1, 2, 3, 4, 5, 6], |s| s.beside()),
+    group("word of no class, by its place", &[1, 2, 3, 4, 5, 6, 7, 8, 9, 10], |s| s.beside()),
+    group("class, scaled index past 2^64, done", &[8, 9, 29, 30, 33, 34], |s| {
+        s.class_where(|s, _| s.active().next().is_some() && s.is_past_by_scaling())
+    }),
     group("counter's size, bit 15 clear", SIZE, |s| s.counter_size(false)),
     group("counter's size, bit 15 set", SIZE, |s| s.counter_size(true)),
+    group("class, counter without a size", STRIDED, |s| s.class_by_counter(0, false)),
+    group("class, counter without a size, bit 15", STRIDED, |s| s.class_by_counter(0, true)),
+    group("class, counter of 8 bits", STRIDED, |s| s.class_by_counter(8, false)),
+    group("class, counter of 8 bits, bit 15", STRIDED, |s| s.class_by_counter(8, true)),
+    group("class, counter of 16 bits", STRIDED, |s| s.class_by_counter(16, false)),
+    group("class, counter of 16 bits, bit 15", STRIDED, |s| s.class_by_counter(16, true)),
+    group("class, counter of 32 bits", STRIDED, |s| s.class_by_counter(32, false)),
+    group("class, counter of 32 bits, bit 15", STRIDED, |s| s.class_by_counter(32, true)),
+    group("class, counter of 64 bits", STRIDED, |s| s.class_by_counter(64, false)),
+    group("class, counter of 64 bits, bit 15", STRIDED, |s| s.class_by_counter(64, true)),
+    group("class, a narrower counter, several active", WIDER, |s| s.counter_over_element(0)),
+    group("class, an equal counter, several active", STRIDED, |s| s.counter_over_element(1)),
+    group("class, every second element", NARROW, |s| s.counter_over_element(2)),
+    group("class, every fourth element", SHORT, |s| s.counter_over_element(4)),
+    group("class, every eighth element", BYTES, |s| s.counter_over_element(8)),
+    group("VB 16, class, gaps", NARROW, |s| s.gaps_at(16)),
+    group("VB 32, class, gaps", NARROW, |s| s.gaps_at(32)),
+    group("VB 64, class, gaps", NARROW, |s| s.gaps_at(64)),
+    group("VB 128, class, gaps", NARROW, |s| s.gaps_at(128)),
+    group("VB 256, class, gaps", NARROW, |s| s.gaps_at(256)),
     group("VB, counter's highest bit decides", VB, |s| s.counter_decided(|vb| maxbit(vb) - 1)),
     group("VB, ignored bits decide, bit 15 clear", VB, |s| s.ignored(false)),
     group("VB, ignored bits decide, bit 15 set", VB, |s| s.ignored(true)),
@@ -107,23 +149,24 @@ pub const GROUPS: &[Group] = &[
     group("element passes 2^64, fault", ONCE, |s| once(s.passes_the_top())),
     group("fault at the first, a later, the last element", &[0, 1, 2], |s| s.faulting()),
     group("byte of 1 that faults", &[0], |s| s.byte_that_faults(1, false)),
+    group("byte of 1 that faults, strided", &[0], |s| s.byte_that_faults(1, true)),
     group("byte of 2 that faults", &[0, 1], |s| s.byte_that_faults(2, false)),
+    group("byte of 2 that faults, strided", &[0, 1], |s| s.byte_that_faults(2, true)),
     group("byte of 4 that faults", &[0, 1, 2, 3], |s| s.byte_that_faults(4, false)),
+    group("byte of 4 that faults, strided", &[0, 1, 2, 3], |s| s.byte_that_faults(4, true)),
     group("byte of 8 that faults", BYTE_OF_8, |s| s.byte_that_faults(8, false)),
     group("byte of 8 that faults, strided", BYTE_OF_8, |s| s.byte_that_faults(8, true)),
     group("byte of 16 that faults", BYTE_OF_16, |s| s.byte_that_faults(16, false)),
     group("address below its base, done", ONCE, |s| s.once(|s, _| s.is_below_base())),
     group("runs", RUNS, |s| s.done(|effect| effect.runs as u64)),
     group("bytes in runs", PAYLOAD, |s| s.done(|effect| effect.payload() as u64)),
-    group("patch's length", &[4, 17, 18, 20, 24, 32, 836, 900, 1028, 1040], |s| {
-        s.done(|effect| effect.patch.len() as u64)
-    }),
+    group("patch's length", LENGTH, |s| s.done(|effect| effect.patch.len() as u64)),
     group("steps", STEPS, |s| s.done(|effect| effect.steps as u64)),
     group("class, no step", CLASS, |s| s.class_where(|_, effect| effect.steps == 0)),
     group("class, one step of several elements", CLASS, |s| {
         s.class_where(|_, effect| effect.steps == 1 && effect.active > 1)
     }),
-    group("class, a step for each of several elements", SCATTER, |s| {
+    group("class, a step for each of several elements", APART, |s| {
         s.class_where(|_, effect| effect.steps == effect.active && effect.active > 1)
     }),
     group("class, more steps than runs", SCATTER, |s| {
@@ -143,10 +186,10 @@ pub const GROUPS: &[Group] = &[
     group("class, elements overlap in part", OVERLAPPING, |s| {
         s.class_where(|s, _| neighbours(s).any(|(step, size)| 0 < step && step < size))
     }),
-    group("class, elements touch", SCATTER, |s| {
+    group("class, elements touch", CLASS, |s| {
         s.class_where(|s, _| neighbours(s).any(|(step, size)| step == size))
     }),
-    group("class, one unwritten byte between", UNSCALED, |s| {
+    group("class, one unwritten byte between", ONE_APART, |s| {
         s.class_where(|s, _| neighbours(s).any(|(step, size)| step == size + 1))
     }),
     group("class, contiguous, ascending", CLASS, |s| {
@@ -254,12 +297,26 @@ impl Subject {
 
     /// Which place beside the classes of scatter stores an undefined word has: scaled bytes in elements
     /// of 64 bits with 32-bit offsets (1) and with 64-bit ones (2), and in elements of 32 bits (3);
-    /// doublewords in elements of 32 bits (4); 64-bit offsets with bits 22..21 as 10 (5) or 11 (6).
+    /// doublewords in elements of 32 bits (4); 64-bit offsets with bits 22..21 as 10 (5) or 11 (6). And
+    /// which beside those of strided stores: loads (7), bit 20 with an immediate (8), bit 3 where there
+    /// are two registers (9), bit 3 or 2 where there are four (10).
     fn beside(&self) -> Option<u64> {
         let word = self.input.word;
-        let undefined = self.verdict() == UNDEFINED && word >> 25 == 0b111_0010;
+        if self.verdict() != UNDEFINED {
+            return None;
+        }
+        if word >> 23 == 0b1_0100_0010 {
+            let (four, low) = (word >> 15 & 1 == 1, word >> 2 & 3);
+            return match (word >> 22 & 1, word >> 21 & 1, word >> 20 & 1, low) {
+                (_, 0, _, _) => Some(7),
+                (1, 1, 1, _) => Some(8),
+                (_, 1, _, 2 | 3) if !four => Some(9),
+                (_, 1, _, 1..=3) if four => Some(10),
+                _ => None,
+            };
+        }
         match (word >> 23 & 3, word >> 21 & 3, word >> 13 & 7) {
-            _ if !undefined => None,
+            _ if word >> 25 != 0b111_0010 => None,
             (0, 1, 4 | 6) => Some(1),
             (0, 1, 5) => Some(2),
             (0, 3, 4 | 6) => Some(3),
@@ -348,11 +405,43 @@ impl Subject {
         (counter[1] >> 7 == u8::from(inverted)).then_some(size)
     }
 
+    /// The class of a store whose counter has this element size, 0 for none.
+    fn class_by_counter(&self, size: u64, inverted: bool) -> Option<u64> {
+        self.counter_size(inverted).filter(|&own| own == size)?;
+        self.class()
+    }
+
+    /// The class of a done store with several active elements, whose counter's elements have so many
+    /// times the bits of the store's, 0 for fewer.
+    fn counter_over_element(&self, times: u64) -> Option<u64> {
+        self.class_where(|s, effect| {
+            let size = s.counter_size(true).or_else(|| s.counter_size(false));
+            let own = s.elements().first().map(|element| 8 * element.size as u64);
+            let is_so = |(size, own)| size / own == times;
+            effect.active > 1 && size.zip(own).map_or(false, is_so)
+        })
+    }
+
+    /// The class of a done store at this vector length with unwritten bytes between its elements.
+    fn gaps_at(&self, vb: usize) -> Option<u64> {
+        let strided = self.is_strided() && self.input.vb == vb;
+        self.class_where(|_, effect| strided && effect.runs > 1)
+    }
+
+    /// Whether the scalar index of a strided store, times the element's bytes, passes 2^64.
+    fn is_past_by_scaling(&self) -> bool {
+        let immediate = matches!(self.form(), Some(Form::Strided { immediate: true, .. }));
+        let index = u128::from(arm::index(&self.input));
+        let bytes = self.elements().first().map_or(0, |element| element.size as u128);
+        self.is_strided() && !immediate && index * bytes >= 1 << 64
+    }
+
     /// The vector length where elements would be active otherwise if the count went up to another bit.
     fn counter_decided(&self, highest: fn(usize) -> usize) -> Option<u64> {
         let (counter, vb) = (self.counter()?, self.input.vb);
         let other = mask_up_to(highest(vb), counter, vb);
-        let mut elements = self.elements().iter().zip(other.chunks(8));
+        let size = self.elements().first()?.size;
+        let mut elements = self.elements().iter().zip(other.chunks(size));
         elements.any(|(element, other)| element.active != other[0]).then_some(vb as u64)
     }
 

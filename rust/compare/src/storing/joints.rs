@@ -2,7 +2,7 @@
 //! have to hit of it.
 
 use super::arm::Element;
-use super::groups::{CLASS, SCATTER, UNSCALED};
+use super::groups::{APART, CLASS, ONE_APART, SCATTER, UNSCALED};
 use super::subject::Subject;
 
 /// An active element and the active one before it.
@@ -63,14 +63,14 @@ pub const KINDS: &[Kind] = &[
     kind("next touches across inactive lanes", SCATTER, |_, joint| {
         joint.touches() && !joint.between.is_empty()
     }),
-    kind("next is apart across inactive lanes", SCATTER, |_, joint| {
+    kind("next is apart across inactive lanes", APART, |_, joint| {
         !joint.touches() && !joint.between.is_empty()
     }),
-    kind("apart by inactive lanes alone", SCATTER, |_, joint| {
+    kind("apart by inactive lanes alone", APART, |_, joint| {
         !joint.between.is_empty() && joint.is_filled()
     }),
     kind("next overlaps by one byte", UNSCALED, |_, joint| joint.distance() == -1),
-    kind("next behind a gap of one byte", UNSCALED, |_, joint| joint.distance() == 1),
+    kind("next behind a gap of one byte", ONE_APART, |_, joint| joint.distance() == 1),
     kind("next descends", SCATTER, |_, joint| joint.next.address < joint.one.address),
     kind("next ends where the one before starts", SCATTER, |_, joint| {
         joint.next.end() == u128::from(joint.one.address)

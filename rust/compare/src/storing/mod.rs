@@ -16,6 +16,7 @@ mod groups;
 pub mod input;
 mod joints;
 pub mod shapes;
+mod spaced;
 mod spoil;
 mod stretched;
 mod subject;
@@ -45,10 +46,11 @@ pub const STORES: u64 = 800_000;
 /// Bytes from which patch buffers are taken.
 const NOISE: usize = 8192;
 
-/// The input with this number, in one of eight cases with its elements in stretches, and in one with
-/// an element that faults.
+/// The input with this number, in one of eight cases strided, whole or with gaps, in one with its
+/// elements in stretches, and in one with an element that faults.
 fn input(number: u64) -> Input {
     match number % 8 {
+        5 => spaced::input(number),
         6 => stretched::input(number),
         7 => faulting::input(number),
         _ => shapes::input(number),
@@ -146,7 +148,7 @@ impl<'a> Comparison<'a> {
         fillings: &[Filling],
     ) -> bool {
         let rooms = match &subject.right {
-            Err(_) => vec![0, random.below(64), 1_040 + random.below(800)],
+            Err(_) => vec![0, random.below(64), 6_660 + random.below(800)],
             Ok(Effect { patch, .. }) => {
                 let exact = patch.len();
                 let (short, long) = (random.below(exact), exact + 1 + random.below(40));

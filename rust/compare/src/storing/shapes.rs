@@ -137,9 +137,10 @@ pub fn permuted(random: &mut Random, input: &Input, elements: &[Element]) -> Inp
     match scattered(input) {
         Some(class) => permute(random, class, input, &mut other),
         None => {
+            let size = elements[0].size;
             let [one, two] = [(); 2].map(|()| elements[random.below(elements.len())].index);
-            other.z[one..one + 8].copy_from_slice(&input.z[two..two + 8]);
-            other.z[two..two + 8].copy_from_slice(&input.z[one..one + 8]);
+            other.z[one..one + size].copy_from_slice(&input.z[two..two + size]);
+            other.z[two..two + size].copy_from_slice(&input.z[one..one + size]);
         }
     }
     other

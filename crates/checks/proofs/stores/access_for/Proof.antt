@@ -1,13 +1,12 @@
 -- `access_for`: by the store's case. Assumes nothing.
 use mathlib.Core.Bool.{false}
-use mathlib.Core.Path.{_≡_, refl, sym, ap, _∙_}
-use Rattle.encoding.specs.Encoding.{refused}
+use mathlib.Core.Path.{_≡_, sym, ap, ap₂, _∙_}
+use Rattle.encoding.specs.Encoding.{classFor, refused}
 use Rattle.encoding.specs.declared.Store.the-variants as S
 use Rattle.elements.specs.Machine.{machine}
 use Rattle.checks.specs.Checking.{accessFor}
 use Rattle.checks.specs.declared.Checked.the-variants.{Vector, Strided}
-use Rattle.elements.proofs.Shapes.{strided-in}
-use Rattle.elements.proofs.Numbers.{strided-whole}
+use Rattle.elements.specs.Accesses.{stridedOf}
 use borrow.Author.Needs.{needs}
 use Rattle.checks.proofs.stores.access_for.Statement.{statement}
 use Rattle.checks.proofs.stores.access_for.Tie as tie
@@ -57,10 +56,8 @@ returns-2 c =
     λ z.
     let m = machine (g .vb) (g .x .now) (g .sp) z (g .p .now) in
     let f = t .store2 .given .0 .0 in
-    let s = strided-in f (accepted t) in
     ap Strided
-    (c .strided-access .ensures
-    ∙ strided-whole m f (s .step) (s .eight) _ _ _ _ refl (b .start-of .ensures) (r .range-for .ensures .0) (r .range-for .ensures .1))
+    (c .strided-access .ensures ∙ ap₂ (stridedOf (classFor (S.Strided f)) f) (b .start-of .ensures) (r .range-for .ensures))
     ∙ sym (ap (accessFor m) (t .store2 .given .1))
 
 returns-3 : tie.Need-returns-3

@@ -7,7 +7,7 @@ use Rattle.edges.proofs.large.runs.Statement.{statement}
 use Rattle.edges.proofs.large.runs.Tie as tie
 
 abbrev Inv-loop : tie.InvT-loop
-Inv-loop s₀ n len at₀ start₀ k₀ s at start k = (k ≤ n) × (at ≤ 28 * k) × (start ≤ 8192 + 17 * k) × (length s ≡ length s₀)
+Inv-loop s₀ n len at₀ start₀ k₀ s at start k = (k ≤ n) × (at ≤ 14 * k) × (start ≤ 8192 + 3 * k) × (length s ≡ length s₀)
 
 abbrev μ-loop : tie.MeasureT-loop
 μ-loop s₀ n len at₀ start₀ k₀ s at start k = n - k

@@ -6,7 +6,7 @@ use Rattle.encoding.specs.Classes.{classes, classAt, any, has}
 use Rattle.encoding.specs.Encoding.{lowest}
 use Rattle.encoding.specs.Layouts.{numberIn, digitAt, packedOf}
 use Rattle.encoding.specs.declared.Number.{Number}
-use Rattle.encoding.specs.declared.Number.the-variants.{Nreg, RmValues, Step, Size, Scale}
+use Rattle.encoding.specs.declared.Number.the-variants.{Nreg, RmValues, Step, Size, Exponent, Scale}
 use Rattle.encoding.proofs.Tests.{every}
 use Rattle.encoding.proofs.Rows.{digitsAre, digit-at}
 use borrow.Author.Needs.{needs}
@@ -46,6 +46,12 @@ enum-told-5 c = search needs
 digit-requires-2 : tie.Need-digit-requires-2
 digit-requires-2 c κs = search needs
 
+enum-told-6 : tie.Need-enum-told-6
+enum-told-6 c = search needs
+
+digit-requires-3 : tie.Need-digit-requires-3
+digit-requires-3 c κs = search needs
+
 -- digit j of the class's number, or a power by it, is the number that is asked for
 told : (p : tie.After-packed) (x : Number) → p .before .args .number ≡ x → (g : ℕ → ℕ) (j r : ℕ) → r ≡ g (digitAt (p .packed .result) j)
     → T (digitsAre g (λ c. numberIn c x) j) → r ≡ numberIn (classAt (p .before .args .k)) (p .before .args .number)
@@ -72,7 +78,11 @@ returns-4 c = told (c .before .before .before) Size (c .before .enum-told4 .give
 
 returns-5 : tie.Need-returns-5
 unfolding classes any has every lowest packedOf digitsAre
-returns-5 c = told (c .before .before .before) Scale (c .before .enum-told5 .given .1) (λ n. n) 2 _ (c .digit2 .ensures .0) tt
+returns-5 c = told (c .before .before .before) Exponent (c .before .enum-told5 .given .1) (λ n. n) 3 _ (c .digit2 .ensures .0) tt
+
+returns-6 : tie.Need-returns-6
+unfolding classes any has every lowest packedOf digitsAre
+returns-6 c = told (c .before .before .before) Scale (c .before .enum-told6 .given .1) (λ n. n) 2 _ (c .digit3 .ensures .0) tt
 
 pub number-at-spec : {M : Type 1} → statement M
 number-at-spec =
@@ -89,8 +99,11 @@ number-at-spec =
     power-requires-3
     enum-told-5
     digit-requires-2
+    enum-told-6
+    digit-requires-3
     returns
     returns-2
     returns-3
     returns-4
-    returns-5)
+    returns-5
+    returns-6)

@@ -96,7 +96,7 @@ fn wrong_rooms() {
         (
             "one for the largest patch asked for",
             ending(|subject, Lent { memory, buffer, answer }| match buffer.len() {
-                0..=1_039 => end(&subject, Lent { memory, buffer: &mut [], answer }),
+                0..=6_659 => end(&subject, Lent { memory, buffer: &mut [], answer }),
                 _ => end(&subject, Lent { memory, buffer, answer }),
             }),
         ),

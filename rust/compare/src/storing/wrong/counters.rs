@@ -13,7 +13,7 @@ fn up_to(highest: impl Fn(&Input, &Class) -> usize + Sync + 'static) -> Box<Stor
     with_elements(move |input, class, elements| {
         if matches!(class.form, Form::Strided { .. }) {
             let mask = mask_up_to(highest(input, class), counter(input), input.vb);
-            for (element, mask) in elements.iter_mut().zip(mask.chunks(8)) {
+            for (element, mask) in elements.iter_mut().zip(mask.chunks(class.esize / 8)) {
                 element.active = mask[0];
             }
         }
@@ -51,7 +51,9 @@ fn highest_bits() {
         ("a bit too few", up_to(|input, _| maxbit(input.vb) - 1)),
         ("a bit too many", up_to(|input, _| maxbit(input.vb) + 1)),
         ("log2(VB)", up_to(|input, _| log2(input.vb))),
-        ("log2 of the store's own bytes", up_to(|input, class| log2(8 * class.elements(input.vb)))),
+        ("log2 of the store's own bytes", {
+            up_to(|input, class| log2(class.elements(input.vb) * class.esize / 8))
+        }),
         ("that of VB 16", up_to(|_, _| 6)),
         ("that of VB 256", up_to(|_, _| 10)),
         ("counted from the lowest set one", {

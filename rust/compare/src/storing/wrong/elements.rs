@@ -78,7 +78,8 @@ fn wrong_addresses() {
                     let mut address = elements[0].address;
                     for element in elements {
                         element.address = address;
-                        address = address.wrapping_add(8 * u64::from(element.active));
+                        address =
+                            address.wrapping_add(element.size as u64 * u64::from(element.active));
                     }
                 }
             }),

@@ -60,7 +60,8 @@ fn wrong_elements() {
         (
             "the first register's alone",
             writing(|subject| {
-                let each = subject.input.vb / 8;
+                let own = subject.elements().first().map_or(1, |element| element.size);
+                let each = subject.input.vb / own;
                 only(subject, |e| e < each || !subject.is_strided())
             }),
         ),

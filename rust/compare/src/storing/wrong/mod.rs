@@ -9,6 +9,7 @@ mod memory;
 mod narrow;
 mod patches;
 mod steps;
+mod strided;
 mod verdicts;
 
 use super::arm::{self, Element};
