@@ -4,7 +4,7 @@ ghost use mathlib.Core.Path.{_≡_};
 ghost use mathlib.Core.Bool.{true};
 ghost use mathlib.Core.List.{List, []};
 ghost use mathlib.Core.Option.{none};
-ghost use Prim.Native.Nat.{ℕ, _*_, _≤_, _<_};
+ghost use Prim.Native.Nat.{ℕ, _+_, _-_, _*_, _≤_, _<_};
 ghost use lib.ListN.{length};
 ghost use Rattle.window.specs.Window.{windowOk};
 ghost use Rattle.elements.specs.Accesses.{StridedSound, stridedElements};
@@ -20,6 +20,22 @@ use verdicts::Verdict;
 pub enum Search {
     Inside,
     Outside { element: u64, address: u64 },
+}
+
+// The bytes from a store's first address to its first active element's.
+fn lead(s: StridedAccess) -> usize
+    requires { ⌜ s .low * s .gap ≤ 1024 ⌝ }
+    ensures { λ r. ⌜ r ≡ s .low * s .gap ⌝ }
+{
+    s.low * s.gap
+}
+
+// The bytes from the first active element's first to the last one's last.
+fn span(s: StridedAccess) -> usize
+    requires { ⌜ (s .low < s .high) × ((s .high - 1 - s .low) * s .gap + s .size ≤ 1024) ⌝ }
+    ensures { λ r. ⌜ r ≡ (s .high - 1 - s .low) * s .gap + s .size ⌝ }
+{
+    (s.high - 1 - s.low) * s.gap + s.size
 }
 
 // The lowest active element with a byte outside the window, by a walk.
@@ -49,18 +65,11 @@ fn find_outside(s: StridedAccess, vb: usize, base: u64, room: u64) -> Search
     requires { ⌜ StridedSound s vb × (windowOk base room ≡ true) ⌝ }
     ensures { λ r. ⌜ ((z : List ℕ) → length z ≡ 32 * vb → SearchedAs base room (stridedElements s vb z) r) ⌝ }
 {
-    let low = s.low;
-    let high = s.high;
-    if high <= low {
+    if s.high <= s.low {
         return Search::Inside;
     }
-    let bytes = (high - 1 - low) * s.gap + s.size;
-    if window::inside(
-        base,
-        room,
-        elements::strided_address(s, low * s.gap),
-        bytes as u64,
-    ) {
+    let address = elements::strided_address(s, lead(s));
+    if window::inside(base, room, address, span(s) as u64) {
         return Search::Inside;
     }
     walk(s, vb, base, room)
@@ -134,7 +143,7 @@ fn finish(
             refusal: Refusal::NoRoom,
         };
     }
-    let at = (elements::strided_address(s, s.low * s.gap) - base) as usize;
+    let at = (elements::strided_address(s, lead(s)) - base) as usize;
     let counts = copying::copy_active(s, vb, z, memory, at);
     let composed = cutting::compose_spaced(base, at, s.gap, size, count, memory, patch);
     Verdict::Done {

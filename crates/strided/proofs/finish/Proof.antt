@@ -1,6 +1,6 @@
 -- `finish` of a strided store: the active elements are copied, and the patch is cut out of where they lie. Assumes nothing.
-use mathlib.Core.Path.{_≡_, ap}
-use Prim.Native.Nat.{ℕ, _+_, _-_, _*_, _≤_}
+use mathlib.Core.Path.{_≡_, ap, _∙_}
+use Prim.Native.Nat.{ℕ, _+_, _-_, _*_, _%_, _^_, _≤_}
 use native.Mathlib.Nat.{mul-le-mul}
 use native.Mathlib.Omega.{arith}
 use lib.ListN.{length}
@@ -42,8 +42,8 @@ module _ (k : tie.After-slice-known2) where
   small = runs-small (entry .args .s) (entry .args .vb) (entry .pre .0 .0) count most some
 
   -- the first one's distance from the store's first address
-  lies : entry .args .s .low * entry .args .s .gap ≤ 1024
-  lies =
+  leads : entry .args .s .low * entry .args .s .gap ≤ 1024
+  leads =
       let s = entry .args .s in
       let l : s .low ≤ s .nreg * s .per = omega (arith, entry .pre .0 .1, entry .pre .0 .0 .most) in
       reach-small s (entry .args .vb) (entry .pre .0 .0) (s .low) l
@@ -92,11 +92,11 @@ returns c =
 
 -- ---- with the first address at hand: where the elements lie
 
-abbrev ran : tie.After-struct-known2 → tie.After-runs-of
-ran d = d .before .before
+lead-requires : tie.Need-lead-requires
+lead-requires c κs = leads (at-entry (c .before))
 
-mul-strided-address : tie.Need-mul-strided-address
-mul-strided-address c = omega (arith, lies (at-entry (ran c)))
+abbrev ran : tie.After-lead → tie.After-runs-of
+ran d = d .before .before
 
 strided-address-requires : tie.Need-strided-address-requires
 strided-address-requires c κs = search needs
@@ -110,7 +110,7 @@ module _ (d : tie.After-strided-address) where
 
   address : d .strided-address .result ≡ stridedAddress (start .args .s) (start .args .s .low)
   unfolding stridedAddress
-  address = d .strided-address .ensures
+  address = d .strided-address .ensures ∙ ap (λ (i : ℕ). (start .args .s .start + i) % 2 ^ 64) (d .before .lead .ensures)
 
   below : start .args .base ≤ d .strided-address .result
   below =
@@ -207,7 +207,7 @@ finish-spec =
     mul-if1
     add-if1-2
     returns
-    mul-strided-address
+    lead-requires
     strided-address-requires
     sub-at
     copy-active-requires
