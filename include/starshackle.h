@@ -31,7 +31,7 @@ extern "C" {
 /* Verdicts, in the order in which they are checked: the lowest that is due is answered. */
 enum starshackle_verdict {
     STARSHACKLE_DONE = 0,
-    STARSHACKLE_LENGTH = 1,    /* vb is none of 16, 32, 64, 128, 256 */
+    STARSHACKLE_LENGTH = 1,    /* vb is none of 16, 32, 64, 128, 256; with EARLY on and STREAMING off: no multiple of 16 from 16 to 256 */
     STARSHACKLE_REGISTERS = 2, /* z_len isn't 32 * vb, or p_len isn't 2 * vb */
     STARSHACKLE_WINDOW = 3,    /* the window is longer than 65,536 bytes, or passes 2^64; it may end there */
     STARSHACKLE_UNDEFINED = 4, /* the word is of no class, or its flag is off: SVE for 1..7 and 13..24, SME2 for 8..11 and 25..36,
@@ -45,15 +45,16 @@ enum starshackle_verdict {
     STARSHACKLE_FIELDS = 11    /* no word has these fields */
 };
 
-/* Bits of `flags`; higher ones mean nothing. */
+/* Bits of `flags`; others mean nothing. */
 enum starshackle_flag {
     STARSHACKLE_FLAG_SVE = 1,
     STARSHACKLE_FLAG_SME2 = 2,
     STARSHACKLE_FLAG_SVE2P1 = 4,
-    STARSHACKLE_FLAG_STREAMING = 8,            /* streaming mode is on */
-    STARSHACKLE_FLAG_FA64 = 16,                /* classes 1..7 and 12..24 are legal in streaming mode */
-    STARSHACKLE_FLAG_SP_CHECK = 32,            /* SP as a base has to be a multiple of 16 where an element is active, */
-    STARSHACKLE_FLAG_SP_CHECK_NONE_ACTIVE = 64 /* and, with this flag too, where none is */
+    STARSHACKLE_FLAG_STREAMING = 8,             /* streaming mode is on */
+    STARSHACKLE_FLAG_FA64 = 16,                 /* classes 1..7 and 12..24 are legal in streaming mode */
+    STARSHACKLE_FLAG_SP_CHECK = 32,             /* SP as a base has to be a multiple of 16 where an element is active, */
+    STARSHACKLE_FLAG_SP_CHECK_NONE_ACTIVE = 64, /* and, with this flag too, where none is */
+    STARSHACKLE_FLAG_EARLY = 256                /* the early edition of Arm's SVE supplement, else the late one: which lengths there are */
 };
 
 /* Classes of words: instruction, element size where there are several, and how offsets or registers are given. */
@@ -162,7 +163,7 @@ uint64_t starshackle_encode(const uint64_t fields[8], uint64_t answer[5]);
  * Runs the store that a word names and makes its patch: writes the bytes of its active elements to memory, lowest element first, and
  * to the patch buffer the bytes that they leave there, each with its address. Writes both, or neither.
  *
- *   vb      VB, the vector length in bytes
+ *   vb      VB, the vector length in bytes: 16, 32, 64, 128 or 256; with EARLY on and STREAMING off any multiple of 16 from 16 to 256
  *   flags   bits of enum starshackle_flag
  *   x       X0 to X30
  *   sp      SP: register 31 as a base. Register 31 as Rm is zero.
@@ -213,21 +214,23 @@ uint64_t starshackle_store(size_t vb, uint64_t flags, const uint64_t x[31], uint
                            uint8_t *patch, size_t patch_len, uint64_t answer[6]);
 
 /*
- * What one element of the word's store is. No flag and no window is looked at.
+ * What one element of the word's store is. No window is looked at, and of the flags only EARLY and STREAMING, for LENGTH.
  *
- *   vb, x, sp, z, z_len, p, p_len, word  as in starshackle_store
+ *   vb, flags, x, sp, z, z_len, p, p_len, word  as in starshackle_store
  *   e       the element's number, from 0 on, a strided store's through all its registers
  *   answer  for the answer
  *
  * DONE   answer[4] is how many elements the store has, active or not. If e is below it:
  *        answer[0] 1 if element e is active, else 0; answer[1] its first address; answer[2] the index in z of its first byte;
  *        answer[3] how many bytes it writes. An element that isn't active has these too. Otherwise answer[0..3] are 0.
- * LENGTH, REGISTERS, UNDEFINED (the word is of no class)  zeros.
+ * LENGTH     zeros: vb is refused as in starshackle_store, or the word is of classes 8..11 or 25..36 and vb is none of 16, 32, 64, 128,
+ *            256. At such a vb starshackle_store refuses these words with one of 1 to 5, whatever the flags.
+ * REGISTERS, UNDEFINED (the word is of no class)  zeros.
  *
  * z and p may be null with length 0; x and answer never. answer overlaps nothing else of the call.
  */
-uint64_t starshackle_element(size_t vb, const uint64_t x[31], uint64_t sp, const uint8_t *z, size_t z_len, const uint8_t *p,
-                             size_t p_len, uint32_t word, uint64_t e, uint64_t answer[5]);
+uint64_t starshackle_element(size_t vb, uint64_t flags, const uint64_t x[31], uint64_t sp, const uint8_t *z, size_t z_len,
+                             const uint8_t *p, size_t p_len, uint32_t word, uint64_t e, uint64_t answer[5]);
 
 /*
  * Applies a patch to the window: writes every byte of it, or none.

@@ -46,13 +46,16 @@ from enum import IntEnum, IntFlag
 from typing import List, Optional, Union
 
 __all__ = [
-    "Verdict", "Flags", "Extension", "Machine", "Store", "Decoded", "Encoded", "Stored", "Element", "Applied", "Judged",
+    "Verdict", "Flags", "Edition", "Extension", "Machine", "Store", "Decoded", "Encoded", "Stored", "Element", "Applied", "Judged",
     "decode", "encode", "store", "element", "apply", "judge",
-    "LENGTHS", "LARGEST_STORE_PATCH", "LARGEST_PATCH", "LARGEST_WINDOW",
+    "LENGTHS", "EARLY_LENGTHS", "LARGEST_STORE_PATCH", "LARGEST_PATCH", "LARGEST_WINDOW",
 ]
 
 LENGTHS = (16, 32, 64, 128, 256)
 """The lengths that a vector may have, in bytes."""
+
+EARLY_LENGTHS = tuple(range(16, 257, 16))
+"""Those that it may have under the early edition with streaming off."""
 
 LARGEST_STORE_PATCH = 6660
 """No store's patch is longer: a buffer for `store` with room for all.
@@ -71,7 +74,7 @@ class Verdict(IntEnum):
     """What a call answers, in the order in which it is checked; all but DONE are refusals."""
 
     DONE = 0
-    LENGTH = 1  # vb is none of LENGTHS
+    LENGTH = 1  # vb is none of LENGTHS; under the early edition with streaming off: none of EARLY_LENGTHS
     REGISTERS = 2  # z has other than 32 * vb bytes, or p other than 2 * vb
     WINDOW = 3  # the window is longer than LARGEST_WINDOW, or passes 2**64
     UNDEFINED = 4  # the word is of no class, or its flag is off
@@ -85,7 +88,7 @@ class Verdict(IntEnum):
 
 
 class Flags(IntFlag):
-    """What the machine has, and which state it is in. Higher bits mean nothing."""
+    """What the machine has, and which state it is in. Other bits mean nothing."""
 
     SVE = 1
     SME2 = 2
@@ -94,6 +97,14 @@ class Flags(IntFlag):
     FA64 = 16
     SP_CHECK = 32
     SP_CHECK_NONE_ACTIVE = 64
+
+
+class Edition(IntEnum):
+    """Which edition of Arm's SVE supplement the machine follows; they differ in the lengths that there are. The number is its bit beside
+    the flags, as the library takes it."""
+
+    LATE = 0
+    EARLY = 256
 
 
 class Extension(IntEnum):
@@ -108,8 +119,8 @@ class Extension(IntEnum):
 class Machine:
     """The registers that a store reads, and the machine's flags. What isn't given is zero.
 
-    vb is the vector length in bytes. x has X0 to X30. Z register r starts at byte r * vb of z, P register g at byte g * vb // 8 of
-    p; bit i of it is bit i % 8 of its byte i // 8.
+    vb is the vector length in bytes: one of `lengths`, which edition and streaming decide. x has X0 to X30. Z register r starts at byte
+    r * vb of z, P register g at byte g * vb // 8 of p; bit i of it is bit i % 8 of its byte i // 8.
 
     The low 16 bits of P register 8 + Pc are the counter of a strided store. Its element size is 8, 16, 32 or 64 bits, as its lowest set
     bit is bit 0, 1, 2 or 3; where none of these is set nothing is active. Its count is the number above that bit, up to bit
@@ -121,6 +132,16 @@ class Machine:
     >>> machine = Machine(vb=32)
     >>> len(machine.x), len(machine.z), len(machine.p)
     (31, 1024, 64)
+
+    Three quadwords in 48 bytes, under the early edition alone:
+
+    >>> element(Machine(vb=48, edition=Edition.EARLY), 0xE4202000, 0).elements
+    3
+    >>> late = Machine(vb=48)
+    >>> element(late, 0xE4202000, 0).verdict
+    <Verdict.LENGTH: 1>
+    >>> late.length_rule()
+    'vb is 48; under the late edition it may be 16, 32, 64, 128 or 256'
     """
 
     vb: int = 16
@@ -129,9 +150,23 @@ class Machine:
     sp: int = 0
     z: Union[bytes, bytearray, None] = None
     p: Union[bytes, bytearray, None] = None
+    edition: Edition = Edition.LATE
+
+    @property
+    def lengths(self):
+        """The lengths that the machine may have. What is said of the rule explains verdict LENGTH and is no part of it."""
+        any_multiple = self.edition is Edition.EARLY and not self.flags & Flags.STREAMING
+        return EARLY_LENGTHS if any_multiple else LENGTHS
+
+    def length_rule(self):
+        """The rule by which verdict LENGTH is given or not, as a text."""
+        if self.lengths is EARLY_LENGTHS:
+            return f"vb is {self.vb}; under the early edition it may be any multiple of 16 from 16 to 256"
+        cause = "with streaming on, under both editions," if self.edition is Edition.EARLY else "under the late edition"
+        return f"vb is {self.vb}; {cause} it may be 16, 32, 64, 128 or 256"
 
     def __post_init__(self):
-        vb = self.vb if self.vb in LENGTHS else 0
+        vb = self.vb if self.vb in EARLY_LENGTHS else 0
         self.x = [0] * 31 if self.x is None else self.x
         self.z = bytearray(32 * vb) if self.z is None else self.z
         self.p = bytearray(2 * vb) if self.p is None else self.p
@@ -256,7 +291,7 @@ _PARAMETERS = {
     "starshackle_decode": [_U32, _Fields],
     "starshackle_encode": [_Fields, _Answers],
     "starshackle_store": [_SIZE, _U64, *_REGISTERS, _U64, *_SLICE, _U32, *_SLICE, _StoreAnswers],
-    "starshackle_element": [_SIZE, *_REGISTERS, _U32, _U64, _Answers],
+    "starshackle_element": [_SIZE, _U64, *_REGISTERS, _U32, _U64, _Answers],
     "starshackle_apply": [_U64, *_SLICE, *_SLICE, _Answers],
     "starshackle_judge": [*_SLICE, _Answers],
 }
@@ -340,9 +375,11 @@ def _registers(machine):
 
 
 def _machine(machine):
-    """VB, flags and registers, as the library takes them."""
+    """VB, flags with the edition, and registers, as the library takes them."""
     _instance("machine", machine, Machine)
-    return (_number("vb", machine.vb, 64), _number("flags", machine.flags, 64), *_registers(machine))
+    edition = _instance("edition", machine.edition, Edition)
+    flags = _number("flags", machine.flags, 64) & ~Edition.EARLY | edition
+    return (_number("vb", machine.vb, 64), flags, *_registers(machine))
 
 
 # ---- calls
@@ -416,17 +453,18 @@ def store(machine, base, memory, word, patch):
 
 
 def element(machine, word, number):
-    """What the element with this number of the word's store is; no flag and no window is looked at. Answers `Element`.
+    """What the element with this number of the word's store is. No window is looked at, and of the flags only streaming, with the
+    edition, for LENGTH, which a strided word gets at every vb that is none of LENGTHS. Answers `Element`.
 
     >>> element(Machine(), 0xA1606000, 3)
     Element(verdict=<Verdict.DONE: 0>, active=False, address=24, index=136, bytes=8, elements=4)
     >>> element(Machine(), 0xA1606000, 4)
     Element(verdict=<Verdict.DONE: 0>, active=False, address=0, index=0, bytes=0, elements=4)
     """
-    vb, _, *registers = _machine(machine)
+    lent = _machine(machine)
     word, number = _number("word", word, 32), _number("number", number, 64)
     answer = _Answers()
-    verdict = Verdict(_library.starshackle_element(vb, *registers, word, number, answer))
+    verdict = Verdict(_library.starshackle_element(*lent, word, number, answer))
     active, *others = answer
     return Element(verdict, active == 1, *others)
 

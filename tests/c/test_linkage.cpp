@@ -11,6 +11,6 @@ int main()
     right = right && starshackle_judge(empty, sizeof empty, answer) == STARSHACKLE_DONE;
     right = right && starshackle_apply(0, 0, 0, empty, sizeof empty, answer) == STARSHACKLE_DONE;
     right = right && starshackle_store(0, 0, x, 0, 0, 0, 0, 0, 0, 0, 0, 0, 0, 0, stored) == STARSHACKLE_LENGTH;
-    right = right && starshackle_element(0, x, 0, 0, 0, 0, 0, 0, 0, answer) == STARSHACKLE_LENGTH;
+    right = right && starshackle_element(0, 0, x, 0, 0, 0, 0, 0, 0, 0, answer) == STARSHACKLE_LENGTH;
     return right ? 0 : 1;
 }

@@ -159,7 +159,7 @@ static uint64_t store(uint32_t word, size_t room)
 
 static uint64_t element(uint32_t word, uint64_t e)
 {
-    return starshackle_element(m.vb, m.x, m.sp, m.z, m.z_len, m.p, m.p_len, word, e, answer);
+    return starshackle_element(m.vb, m.flags, m.x, m.sp, m.z, m.z_len, m.p, m.p_len, word, e, answer);
 }
 
 static uint64_t apply(const uint8_t *bytes, size_t length)
@@ -870,7 +870,7 @@ static void refusals(void)
     IS_REFUSED(0xE4208000, STARSHACKLE_UNDEFINED, 0, 0);
     m.flags = ~UINT64_C(0) ^ STARSHACKLE_FLAG_SVE;
     IS_REFUSED(SCATTER, STARSHACKLE_UNDEFINED, 0, 0);
-    ANSWERS(element(SCATTER, 0), STARSHACKLE_DONE, 1, 0x1000, 16, 1, 4); /* looks at no flag */
+    ANSWERS(element(SCATTER, 0), STARSHACKLE_DONE, 1, 0x1000, 16, 1, 4); /* looks at no such flag */
     m.flags = ~UINT64_C(0) ^ STARSHACKLE_FLAG_SME2;
     IS_REFUSED(0xA1206000, STARSHACKLE_UNDEFINED, 0, 0);
     IS_DONE(SCATTER, 4, 4, sizeof EXAMPLE, 3);
@@ -1124,9 +1124,9 @@ static void nulls(void)
     STORE_REFUSED(starshackle_store(16, sve, m.x, 0, NULL, 0, NULL, 0, 0x1000, NULL, 0, SCATTER, NULL, 0, answer),
                   STARSHACKLE_REGISTERS);
     STORE_REFUSED(starshackle_store(0, sve, m.x, 0, NULL, 0, NULL, 0, 0x1000, NULL, 0, SCATTER, NULL, 0, answer), STARSHACKLE_LENGTH);
-    REFUSED(starshackle_element(16, m.x, 0, NULL, 0, m.p, 32, SCATTER, 0, answer), STARSHACKLE_REGISTERS);
-    REFUSED(starshackle_element(16, m.x, 0, m.z, 512, NULL, 0, SCATTER, 0, answer), STARSHACKLE_REGISTERS);
-    REFUSED(starshackle_element(0, m.x, 0, NULL, 0, NULL, 0, SCATTER, 0, answer), STARSHACKLE_LENGTH);
+    REFUSED(starshackle_element(16, sve, m.x, 0, NULL, 0, m.p, 32, SCATTER, 0, answer), STARSHACKLE_REGISTERS);
+    REFUSED(starshackle_element(16, sve, m.x, 0, m.z, 512, NULL, 0, SCATTER, 0, answer), STARSHACKLE_REGISTERS);
+    REFUSED(starshackle_element(0, sve, m.x, 0, NULL, 0, NULL, 0, SCATTER, 0, answer), STARSHACKLE_LENGTH);
 
     /* no window and no buffer, with elements active */
     STORE_REFUSED(starshackle_store(16, sve, m.x, 0, m.z, 512, m.p, 32, 0x1000, memory, 8, SCATTER, NULL, 0, answer),
@@ -1153,6 +1153,69 @@ static void nulls(void)
     CHECK(untouched());
 }
 
+/* ---- both rules for the vector length */
+
+/* Every bit that is neither the edition nor streaming, feature or check. */
+#define NO_FLAGS (~(STARSHACKLE_FLAG_EARLY | UINT64_C(0x7F)))
+
+static int one_of_five(size_t vb)
+{
+    return vb == 16 || vb == 32 || vb == 64 || vb == 128 || vb == 256;
+}
+
+static void editions(void)
+{
+    const uint64_t early = STARSHACKLE_FLAG_EARLY, streaming = STARSHACKLE_FLAG_STREAMING | STARSHACKLE_FLAG_FA64;
+    const uint64_t features = STARSHACKLE_FLAG_SVE | STARSHACKLE_FLAG_SME2 | STARSHACKLE_FLAG_SVE2P1;
+    size_t vb, e;
+    unsigned bits;
+
+    for (vb = 0; vb <= 272; vb += 8) {
+        const int five = one_of_five(vb), multiple = vb % 16 == 0 && 16 <= vb && vb <= 256;
+        for (bits = 0; bits < 8; bits++) {
+            const int any = (bits & 1) && !(bits & 2), allowed = any ? multiple : five;
+            machine(vb < 256 ? vb : 256, features | ((bits & 1) ? early : 0) | ((bits & 2) ? streaming : 0) | ((bits & 4) ? NO_FLAGS : 0),
+                    0x1000, 0);
+            m.vb = vb;
+            CHECK((store(SCATTER, MOST_PATCH) == STARSHACKLE_LENGTH) == !allowed);
+            CHECK((element(SCATTER, 0) == STARSHACKLE_LENGTH) == !allowed);
+            CHECK((store(0xE4202000, MOST_PATCH) == STARSHACKLE_LENGTH) == !allowed);
+            CHECK((store(0xA1606000, MOST_PATCH) == STARSHACKLE_LENGTH) == !allowed);
+            CHECK((element(0xA1606000, 0) == STARSHACKLE_LENGTH) == !five);
+        }
+    }
+
+    /* VB 48: three quadwords, of which P0 has bits 0, 16 and 32 */
+    machine(48, features | early, 0x1000, 64);
+    m.x[0] = 0x1000;
+    for (e = 0; e < 3; e++) {
+        set_z(1, 2 * e, 8, 16 * e);
+        set_z(0, 2 * e, 8, 0x0706050403020100 + 0x1010101010101010 * e);
+        set_z(0, 2 * e + 1, 8, 0x0F0E0D0C0B0A0908 + 0x1010101010101010 * e);
+        m.p[2 * e] = 1;
+    }
+    STORES(store(0xE4202020, MOST_PATCH), STARSHACKLE_DONE, 0, 0, 3, 48, 64, 1);
+    for (e = 0; e < 48; e++)
+        expect_memory(e, (uint8_t)e);
+    CHECK(memcmp(memory_before, memory_area, sizeof memory_area) == 0);
+    ANSWERS(element(0xE4202020, 2), STARSHACKLE_DONE, 1, 0x1020, 32, 16, 3);
+    ANSWERS(element(0xE4202020, 3), STARSHACKLE_DONE, 0, 0, 0, 0, 3);
+    m.p[2] = 0;
+    STORES(store(0xE4202020, MOST_PATCH), STARSHACKLE_DONE, 0, 0, 2, 32, 60, 2);
+    fill();
+    m.z_len--;
+    IS_REFUSED(0xE4202020, STARSHACKLE_REGISTERS, 0, 0);
+    REFUSED(element(0xE4202020, 0), STARSHACKLE_REGISTERS);
+    REFUSED(element(0xA1606000, 0), STARSHACKLE_LENGTH); /* before what is said of the registers */
+    m.flags |= streaming;
+    IS_REFUSED(0xE4202020, STARSHACKLE_LENGTH, 0, 0);
+    m.flags = features;
+    IS_REFUSED(0xE4202020, STARSHACKLE_LENGTH, 0, 0);
+    m.flags = features | early;
+    m.z_len++;
+    IS_REFUSED(0xA1606000, STARSHACKLE_ILLEGAL, 0, 0);
+}
+
 int main(void)
 {
     memset(answer, 0x5A, sizeof answer);
@@ -1171,6 +1234,7 @@ int main(void)
     faults();
     patches();
     nulls();
+    editions();
     printf("C interface: %lu checks passed\n", checks);
     return 0;
 }

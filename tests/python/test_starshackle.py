@@ -9,8 +9,8 @@ import struct
 import unittest
 
 import starshackle
-from starshackle import (LARGEST_PATCH, LARGEST_STORE_PATCH, LARGEST_WINDOW, LENGTHS, Applied, Decoded, Element, Encoded, Extension,
-                         Flags, Judged, Machine, Store, Stored, Verdict, apply, decode, element, encode, judge, store)
+from starshackle import (EARLY_LENGTHS, LARGEST_PATCH, LARGEST_STORE_PATCH, LARGEST_WINDOW, LENGTHS, Applied, Decoded, Edition, Element,
+                         Encoded, Extension, Flags, Judged, Machine, Store, Stored, Verdict, apply, decode, element, encode, judge, store)
 
 SCATTER = 0xE4428001  # st1b { z1.s }, p0, [x0, z2.s, uxtw]
 STRIDED = 0xA1606000  # st1d { z0.d, z8.d }, pn8, [x0]
@@ -288,6 +288,72 @@ class Steps(unittest.TestCase):
         self.assertEqual(self.steps(4, 32, (0, 8, 16, 24), [0, 3]), 1)
 
 
+class Editions(unittest.TestCase):
+    """Both rules for the vector length."""
+
+    FEATURES = Flags.SVE | Flags.SME2 | Flags.SVE2P1
+    MODES = [FEATURES, FEATURES | Flags.STREAMING | Flags.FA64]
+
+    def verdict(self, machine, word):
+        return store(machine, 0, bytearray(), word, bytearray(LARGEST_STORE_PATCH)).verdict
+
+    def test_every_length(self):
+        for vb in range(600):
+            for edition in Edition:
+                for flags in self.MODES:
+                    machine = Machine(vb=vb, flags=flags, edition=edition)
+                    allowed = [n for n in range(16, 257, 16) if n & (n - 1) == 0 or edition is Edition.EARLY and flags == self.FEATURES]
+                    self.assertEqual(machine.lengths, tuple(allowed))
+                    for word in [SCATTER, QUADWORD, STRIDED, 0]:
+                        self.assertEqual(self.verdict(machine, word) is Verdict.LENGTH, vb not in allowed)
+                        refused = vb not in allowed or word == STRIDED and vb not in LENGTHS
+                        self.assertEqual(element(machine, word, 0).verdict is Verdict.LENGTH, refused)
+
+    def test_sixteen_lengths(self):
+        self.assertEqual(EARLY_LENGTHS, tuple(16 * n for n in range(1, 17)))
+        for vb in EARLY_LENGTHS:
+            machine = Machine(vb=vb, flags=self.FEATURES, edition=Edition.EARLY, p=b"\xff" * (2 * vb))
+            self.assertEqual((len(machine.z), len(machine.p)), (32 * vb, 2 * vb))
+            self.assertEqual(element(machine, QUADWORD, 0).elements, vb // 16)
+            self.assertEqual(element(machine, SCATTER, 0).elements, vb // 4)
+            for e in range(vb // 16):
+                struct.pack_into("<Q", machine.z, vb + 16 * e, 0x1000 + 16 * e)
+                machine.z[16 * e:16 * e + 16] = bytes(range(e, e + 16))
+            memory, patch = bytearray(256), bytearray(LARGEST_STORE_PATCH)
+            stored = store(machine, 0x1000, memory, 0xE43F2020, patch)  # st1q { z0.q }, p0, [z1.d]
+            self.assertEqual(stored, Stored(Verdict.DONE, 0, 0, vb // 16, vb, 16 + vb, 1))
+            self.assertEqual(memory, bytes(machine.z[:vb]) + bytes(256 - vb))
+
+    def test_two_editions(self):
+        """Two stores of different editions with one patch."""
+        patches = []
+        for vb, edition, numbers in [(48, Edition.EARLY, [0, 1, 2, 11]), (16, Edition.LATE, [0, 1, 2, 3])]:
+            machine = Machine(vb=vb, flags=Flags.SVE, edition=edition)
+            machine.x[0] = 0x1000
+            for e, offset, byte in zip(numbers, [0, 1, 1, 5], [0xA1, 0xA2, 0xA3, 0xA4]):
+                machine.z[vb + 4 * e], machine.z[2 * vb + 4 * e] = byte, offset
+                machine.p[e // 2] |= 1 << 4 * (e % 2)
+            patch = bytearray(31)
+            self.assertIs(store(machine, 0x1000, bytearray(8), SCATTER, patch).verdict, Verdict.DONE)
+            patches.append(patch)
+        self.assertEqual(patches, [EXAMPLE, EXAMPLE])
+
+    def test_rules(self):
+        rule = lambda **machine: Machine(**machine).length_rule()
+        five = "it may be 16, 32, 64, 128 or 256"
+        self.assertEqual(rule(vb=48), f"vb is 48; under the late edition {five}")
+        self.assertEqual(rule(vb=48, flags=Flags.STREAMING), f"vb is 48; under the late edition {five}")
+        streaming = rule(vb=48, flags=Flags.STREAMING, edition=Edition.EARLY)
+        self.assertEqual(streaming, f"vb is 48; with streaming on, under both editions, {five}")
+        multiples = "it may be any multiple of 16 from 16 to 256"
+        self.assertEqual(rule(vb=40, edition=Edition.EARLY), f"vb is 40; under the early edition {multiples}")
+
+    def test_flags_have_no_edition(self):
+        for flags in [self.FEATURES, self.FEATURES | 256, (1 << 64) - 1 - Flags.STREAMING]:
+            self.assertIs(self.verdict(Machine(vb=48, flags=flags), QUADWORD), Verdict.LENGTH)
+            self.assertIs(self.verdict(Machine(vb=48, flags=flags, edition=Edition.EARLY), QUADWORD), Verdict.DONE)
+
+
 class Refusals(unittest.TestCase):
     """Every verdict, with its detail; what is lent stays as it came."""
 
@@ -481,6 +547,8 @@ class Arguments(unittest.TestCase):
     def test_classes(self):
         self.refused(TypeError, "machine", store, None, 0, bytearray(8), SCATTER, bytearray(31))
         self.refused(TypeError, "machine", element, {}, SCATTER, 0)
+        for edition in [None, 256, "early", Flags.SVE]:
+            self.refused(TypeError, "edition", element, Machine(edition=edition), SCATTER, 0)
         self.refused(TypeError, "store", encode, (6, 0, 0, 0, 0, 0, 0))
 
 
@@ -739,6 +807,7 @@ class Declarations(unittest.TestCase):
         here = {name: getattr(starshackle, name) for name in ["LARGEST_STORE_PATCH", "LARGEST_PATCH", "LARGEST_WINDOW"]}
         for enum, prefix in [(Verdict, ""), (Flags, "FLAG_"), (Extension, "EXTENSION_")]:
             here.update((prefix + name, int(value)) for name, value in enum.__members__.items())
+        here["FLAG_EARLY"] = int(Edition.EARLY)
         others = {name for name in numbers if name.startswith(("CLASS_", "FIELD_"))}
         self.assertEqual(here, {name: number for name, number in numbers.items() if name not in others})
 

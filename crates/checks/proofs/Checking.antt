@@ -4,10 +4,12 @@ use mathlib.Core.Bool.{Bool, true, false, not, cond}
 use mathlib.Core.List.{List}
 use Prim.Native.Nat.{ℕ, _%_, _≤_}
 use native.Mathlib.Omega.{arith}
+use borrow.Author.Tests.{not-false}
 use Rattle.encoding.specs.Decoding.{decodeOf}
 use Rattle.encoding.specs.Encoding.{classFor, featureOf, refused}
 use Rattle.encoding.specs.declared.Decoded.the-variants as D
 use Rattle.encoding.specs.declared.Feature.{Feature}
+use Rattle.encoding.specs.declared.Feature.the-variants.{SME2}
 use Rattle.encoding.specs.declared.Store.{Store}
 use Rattle.encoding.specs.declared.Store.the-variants as S
 use Rattle.encoding.proofs.Statements.{known-accepted}
@@ -59,6 +61,10 @@ access-sound m l h d (S.Strided f) a = strided-sound m l h d f (strided-in f a)
 access-sound m l h d (S.Quadword f) a = quadword-sound m l h d f (quadword-in f a)
 
 -- ---- verdicts 4 to 6 in their order
+
+-- a strided store that isn't illegal has streaming on
+pub legal-streams : (f : Flags) (x : Feature) (b : Bool) → b ≡ illegal f x → b ≡ false → x ≡ SME2 → f .streaming ≡ true
+legal-streams f x b e t q = not-false (f .streaming) (sym (ap (illegal f) q) ∙ sym e ∙ t)
 
 module _ (f : Flags) (m : Machine) (s : Store) (x : Feature) (e : x ≡ featureOf s) (a : Bool) (p : a ≡ not (flagOn f x)) where
   -- by the tests that the code makes

@@ -5,19 +5,19 @@ use mathlib.Core.List.{List, [], _∷_}
 use mathlib.Core.Logic.{⊎-elim}
 use Prim.Native.Nat.{ℕ, _*_, _%_, _^_, _≤_}
 use native.Mathlib.Omega.{arith}
-use lib.Dec.{eqb}
+use lib.Dec.{eqb, leb}
 use lib.ListN.{length}
-use borrow.Author.Tests.{not-false, eqb-true}
+use borrow.Author.Tests.{not-false, eqb-true, leb-true}
 use Rattle.encoding.specs.Decoding.{decodeOf}
 use Rattle.encoding.specs.declared.Decoded.{Decoded}
 use Rattle.encoding.proofs.Statements.{one-of}
 use Rattle.writes.specs.Elements.{Element}
 use Rattle.window.specs.Window.{windowOk}
-use Rattle.endian.proofs.Order.{absurdly}
+use Rattle.endian.proofs.Order.{absurdly, told}
 use Rattle.elements.specs.Machine.{Machine}
 use Rattle.elements.specs.Counter.{highest}
 use Rattle.elements.proofs.Highest.{four-times, highest-power}
-use Rattle.verdicts.specs.Verdicts.{elementsFor, sizeFor, lengthOk, registersOk, undefined, illegalFor, stack, stackFor}
+use Rattle.verdicts.specs.Verdicts.{elementsFor, sizeFor, oneOfFive, lengthOk, registersOk, undefined, illegalFor, stack, stackFor}
 use Rattle.verdicts.specs.Verdicts.{decided}
 use Rattle.verdicts.specs.Verdicts.{verdictOf}
 use Rattle.checks.specs.Checking.{Sound, concluded}
@@ -28,15 +28,17 @@ use Rattle.verdicts.specs.declared.Verdict.the-variants.{Refused}
 
 -- ---- VB
 
-pub record Vb (vb : ℕ) : Type 0 where
+-- what a counter needs of VB holds with streaming on, and every strided store has it on
+pub record Vb (streaming : Bool) (vb : ℕ) : Type 0 where
   pub low : 16 ≤ vb
   pub high : vb ≤ 256
   pub sixteen : vb % 16 ≡ 0
-  pub power : 4 * vb ≡ 2 ^ highest vb
+  pub power : streaming ≡ true → 4 * vb ≡ 2 ^ highest vb
 
-pub length-sound : (vb : ℕ) → lengthOk vb ≡ true → Vb vb
-unfolding lengthOk
-length-sound vb e =
+-- each of the five is 2^k for some k from 4 to 8
+five-sound : (streaming : Bool) (vb : ℕ) → oneOfFive vb ≡ true → Vb streaming vb
+unfolding oneOfFive
+five-sound streaming vb e =
     ⊎-elim (λ h. of 4 (eqb-true vb 16 h) (omega arith) (omega arith) refl)
     (⊎-elim (λ h. of 5 (eqb-true vb 32 h) (omega arith) (omega arith) refl)
     (⊎-elim (λ h. of 6 (eqb-true vb 64 h) (omega arith) (omega arith) refl)
@@ -44,14 +46,30 @@ length-sound vb e =
     (λ h. of 8 (eqb-true vb 256 h) (omega arith) (omega arith) refl))))
     (one-of (eqb vb 16) (eqb vb 32) (eqb vb 64) (eqb vb 128) (eqb vb 256) e)
   where
-    of : (k : ℕ) → vb ≡ 2 ^ k → 16 ≤ 2 ^ k → 2 ^ k ≤ 256 → 2 ^ k % 16 ≡ 0 → Vb vb
+    of : (k : ℕ) → vb ≡ 2 ^ k → 16 ≤ 2 ^ k → 2 ^ k ≤ 256 → 2 ^ k % 16 ≡ 0 → Vb streaming vb
     of k q a b d =
         record {
           low = omega arith;
           high = omega arith;
           sixteen = ap (λ (n : ℕ). n % 16) q ∙ d;
-          power = omega (arith, four-times k, ap (λ (n : ℕ). 2 ^ n) (ap highest q ∙ highest-power k));
+          power = λ u. omega (arith, four-times k, ap (λ (n : ℕ). 2 ^ n) (ap highest q ∙ highest-power k));
         }
+
+pub five-power : (vb : ℕ) → oneOfFive vb ≡ true → 4 * vb ≡ 2 ^ highest vb
+five-power vb e = five-sound true vb e .power refl
+
+pub length-sound : (early streaming : Bool) (vb : ℕ) → lengthOk early streaming vb ≡ true → Vb streaming vb
+unfolding lengthOk
+length-sound true false vb e =
+    let (d, (l, (h, u))) = told (eqb (vb % 16) 0) (leb 16 vb ∷ leb vb 256 ∷ []) e in
+    record {
+      low = leb-true 16 vb l;
+      high = leb-true vb 256 h;
+      sixteen = eqb-true (vb % 16) 0 d;
+      power = λ s. absurdly cc;
+    }
+length-sound true true vb e = five-sound true vb e
+length-sound false streaming vb e = five-sound streaming vb e
 
 -- ---- 6
 
@@ -88,11 +106,12 @@ module _ (f : Flags) (m : Machine) (W L word : ℕ) where
   abbrev misfit : Bool
   misfit = not (eqb (length (m .z)) (32 * m .vb)) || not (eqb (length (m .p)) (2 * m .vb))
 
-  pub of-length : (b : Bool) → b ≡ lengthOk (m .vb) → not b ≡ true → (room : ℕ) → verdictOf f m W L word room ≡ Refused Length
+  pub of-length : (b : Bool) → b ≡ lengthOk (f .early) (f .streaming) (m .vb) → not b ≡ true → (room : ℕ)
+      → verdictOf f m W L word room ≡ Refused Length
   unfolding verdictOf decided
   of-length b e t room = ap (λ (y : Bool). cond y (Refused Length) (from-2 room)) (ap not (sym e) ∙ t)
 
-  module _ (b : Bool) (e : b ≡ lengthOk (m .vb)) (t : not b ≡ false) where
+  module _ (b : Bool) (e : b ≡ lengthOk (f .early) (f .streaming) (m .vb)) (t : not b ≡ false) where
     past-1 : (room : ℕ) → verdictOf f m W L word room ≡ from-2 room
     unfolding verdictOf decided
     past-1 room = ap (λ (y : Bool). cond y (Refused Length) (from-2 room)) (ap not (sym e) ∙ t)
@@ -111,7 +130,7 @@ module _ (f : Flags) (m : Machine) (W L word : ℕ) where
     module _ (r : misfit ≡ false) where
       pub sound : Sound (m .vb) (m .z) (m .p)
       sound =
-          let v = length-sound (m .vb) (sym e ∙ not-false b t) in
+          let v = length-sound (f .early) (f .streaming) (m .vb) (sym e ∙ not-false b t) in
           let q = both (eqb (length (m .z)) (32 * m .vb)) (eqb (length (m .p)) (2 * m .vb)) r in
           record {
             low = v .low;

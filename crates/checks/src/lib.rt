@@ -31,7 +31,7 @@ pub fn check(
 ) -> Checked
     ensures { λ r. ⌜ CheckedAs flags (machine vb (now (x .entry)) sp (now (z .entry)) (now (p .entry))) base length word r ⌝ }
 {
-    if !conditions::length_ok(vb) {
+    if !conditions::length_ok(vb, flags.early, flags.streaming) {
         return Checked::Refused {
             refusal: Refusal::Length,
         };

@@ -1,10 +1,11 @@
 // Checking a decoded store: verdicts 4 to 6.
 ghost use mathlib.Core.Path.{_≡_};
-ghost use mathlib.Core.Bool.{false};
+ghost use mathlib.Core.Bool.{true, false};
 ghost use mathlib.Core.List.{List};
 ghost use Prim.Native.Nat.{ℕ, _*_, _/_, _%_, _^_, _≤_};
 ghost use lib.ListN.{length};
 ghost use Rattle.encoding.specs.Encoding.{featureOf, refused};
+ghost use Rattle.encoding.specs.declared.Feature.the-variants.{SME2};
 ghost use Rattle.endian.specs.LittleEndian.{Bytes};
 ghost use Rattle.elements.specs.Machine.{machine};
 ghost use Rattle.elements.specs.Counter.{highest};
@@ -89,10 +90,10 @@ fn is_on_stack(store: Store) -> bool
     }
 }
 
-// What a store's elements have in common.
+// What a store's elements have in common. A counter is read only where VB is a power of two.
 fn access_for(store: Store, vb: usize, x: &[u64; 31], sp: u64, p: &[u8]) -> Checked
     requires { ⌜ refused store ≡ false ⌝ }
-    requires { ⌜ (16 ≤ vb) × (vb ≤ 256) × (length (now p) ≡ 2 * vb) × (4 * vb ≡ 2 ^ highest vb) ⌝ }
+    requires { ⌜ (16 ≤ vb) × (vb ≤ 256) × (length (now p) ≡ 2 * vb) × (featureOf store ≡ SME2 → 4 * vb ≡ 2 ^ highest vb) ⌝ }
     ensures { λ r. ⌜ ((z : List ℕ) → r ≡ accessFor (machine vb (now (x .entry)) sp z (now (p .entry))) store) ⌝ }
 {
     match store {
@@ -138,7 +139,8 @@ pub fn check_store(
     p: &[u8],
 ) -> Checked
     requires { ⌜ refused store ≡ false ⌝ }
-    requires { ⌜ (16 ≤ vb) × (vb ≤ 256) × (vb % 16 ≡ 0) × (length (now p) ≡ 2 * vb) × (4 * vb ≡ 2 ^ highest vb) ⌝ }
+    requires { ⌜ (16 ≤ vb) × (vb ≤ 256) × (vb % 16 ≡ 0) × (length (now p) ≡ 2 * vb)
+        × (flags .streaming ≡ true → 4 * vb ≡ 2 ^ highest vb) ⌝ }
     ensures { λ r.
         ⌜ ((z : List ℕ) → Sound vb z (now (p .entry)) → Bytes z
         → r ≡ checkedFor flags (machine vb (now (x .entry)) sp z (now (p .entry))) store) ⌝ }

@@ -3,15 +3,25 @@ ghost use mathlib.Core.Path.{_≡_};
 ghost use mathlib.Core.Bool.{not};
 ghost use mathlib.Core.List.{List};
 ghost use Rattle.writes.specs.Elements.{Element};
-ghost use Rattle.verdicts.specs.Verdicts.{lengthOk, flagOn, illegal, someActive, stack};
+ghost use Rattle.verdicts.specs.Verdicts.{oneOfFive, lengthOk, flagOn, illegal, someActive, stack};
 use encoding::Feature;
 use verdicts::Flags;
 
 // Whether VB is one of the five.
-pub fn length_ok(vb: usize) -> bool
-    ensures { λ r. ⌜ r ≡ lengthOk vb ⌝ }
+pub fn one_of_five(vb: usize) -> bool
+    ensures { λ r. ⌜ r ≡ oneOfFive vb ⌝ }
 {
     (vb == 16) | (vb == 32) | (vb == 64) | (vb == 128) | (vb == 256)
+}
+
+// Whether VB is a length of the machine's edition, in its mode. The five are lengths in each.
+pub fn length_ok(vb: usize, early: bool, streaming: bool) -> bool
+    ensures { λ r. ⌜ r ≡ lengthOk early streaming vb ⌝ }
+{
+    if one_of_five(vb) {
+        return true;
+    }
+    early & !streaming & (vb % 16 == 0) & (16 <= vb) & (vb <= 256)
 }
 
 // Whether a feature is off.

@@ -21,15 +21,17 @@ use Rattle.elements.specs.Elements.{elementAt}
 use Rattle.elements.proofs.Numbers.{per-is, register-in, register-long}
 use Rattle.elements.proofs.Shapes.{scatter-in, quadword-in, strided-in}
 use Rattle.verdicts.specs.Verdicts.{lengthOk, registersOk}
+use Rattle.verdicts.specs.declared.Flags.{Flags}
 use Rattle.checks.specs.Checking.{Sound}
 use Rattle.checks.proofs.Order.{length-sound}
 use Rattle.demands.specs.Demand2.{ElementBytes}
 
 -- what verdicts 1 and 2 leave of VB and the buffers
-pub sound : (m : Machine) → lengthOk (m .vb) ≡ true → registersOk m ≡ true → Sound (m .vb) (m .z) (m .p)
+pub sound : (f : Flags) (m : Machine) → lengthOk (f .early) (f .streaming) (m .vb) ≡ true → registersOk m ≡ true
+    → Sound (m .vb) (m .z) (m .p)
 unfolding registersOk
-sound m v r =
-    let l = length-sound (m .vb) v in
+sound f m v r =
+    let l = length-sound (f .early) (f .streaming) (m .vb) v in
     let q = both (eqb (length (m .z)) (32 * m .vb)) (eqb (length (m .p)) (2 * m .vb)) r in
     record {
       low = l .low;
@@ -122,4 +124,4 @@ pub some-bytes : (m : Machine) (s : Store) (e : ℕ) → Sound (m .vb) (m .z) (m
 some-bytes m s e o a h = omega (arith, element-of m s e o a h .0, held m s e a h .some)
 
 pub element-bytes : ElementBytes
-element-bytes m word s e v r d h = element-of m s e (sound m v r) (known-accepted word s d) h
+element-bytes f m word s e v r d h = element-of m s e (sound f m v r) (known-accepted word s d) h

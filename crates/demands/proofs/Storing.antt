@@ -140,7 +140,7 @@ pub settled : (f : Flags) (m : Machine) (W L word room : ℕ) → NoneGiven (bef
 settled f m W L word room (vb, (buffers, (window, (defined, u)))) =
     let k = known f (decodeOf word) defined in
     record {
-      buffers = sound m (not-off (lengthOk (m .vb)) vb) (not-off (registersOk m) buffers);
+      buffers = sound f m (not-off (lengthOk (f .early) (f .streaming) (m .vb)) vb) (not-off (registersOk m) buffers);
       window = not-off (windowOk W L) window;
       store = k .0;
       decoded = k .1;

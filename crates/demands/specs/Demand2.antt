@@ -58,7 +58,8 @@ InAscendingOrder = (m : Machine) (s : Store) → Rising 0 (elements m s)
 -- each element of a word's store has exactly msize/8 bytes, and its byte k is byte r·VB + its index + k of the Z buffer
 abbrev pub ElementBytes : Type 0
 ElementBytes =
-    (m : Machine) (word : ℕ) (s : Store) (e : ℕ) → lengthOk (m .vb) ≡ true → registersOk m ≡ true → decodeOf word ≡ D.Known s
+    (f : Flags) (m : Machine) (word : ℕ) (s : Store) (e : ℕ) → lengthOk (f .early) (f .streaming) (m .vb) ≡ true → registersOk m ≡ true
+    → decodeOf word ≡ D.Known s
     → e < countOf m s
     → (length (elementAt m s e .bytes) ≡ sizeOf (classFor s))
     × ((k : ℕ) → k < sizeOf (classFor s)

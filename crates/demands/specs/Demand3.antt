@@ -159,6 +159,7 @@ pub record Demand3 : Type 0 where
   pub runs-sorted : RunsKeepTheRules
   -- "Take any two stores done over the same window address and length, whatever their words, registers, flags and vector lengths.
   -- Their patches are identical byte strings exactly when both stores leave the same memory from every initial filling of that window."
+  -- Document 02 (vi): "Demand 3 spans two stores of different editions": each store has flags, and so an edition, of its own.
   pub same : SamePatches
   -- "For every such filling, applying a store's patch to that window is done and leaves, byte for byte, what running the store
   -- leaves."

@@ -5,3 +5,4 @@ pub mod Demand3
 -- and the sentences of document 02 that aren't theirs
 pub mod Steps
 pub mod Spacing
+pub mod Editions

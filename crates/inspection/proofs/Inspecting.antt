@@ -1,6 +1,6 @@
 -- An element of a store as its access's, and the refusals in their order. Assumes nothing.
 use mathlib.Core.Path.{_≡_, refl, sym, ap, ap₂, _∙_}
-use mathlib.Core.Bool.{Bool, true, false, not, cond, _&&_}
+use mathlib.Core.Bool.{Bool, true, false, not, cond, _&&_, _||_}
 use mathlib.Core.List.{List}
 use Prim.Native.Nat.{ℕ, zero, suc, _+_, _*_, _/_, _%_, _^_, _≤_, _<_}
 use native.Mathlib.Nat.{zero-mul, mul-mod-left, mul-div-cancel, mul-div-mul-right}
@@ -10,16 +10,20 @@ use lib.Dec.{eqb}
 use lib.ListN.{length}
 use borrow.Author.Tests.{eq-eqb, ne-eqb, lt-ltb, le-ltb}
 use Rattle.encoding.specs.Decoding.{decodeOf}
-use Rattle.encoding.specs.Encoding.{classFor}
+use Rattle.encoding.specs.Encoding.{classFor, featureOf}
 use Rattle.encoding.specs.declared.Decoded.{Decoded}
+use Rattle.encoding.specs.declared.Decoded.the-variants.{Known}
+use Rattle.encoding.specs.declared.Feature.the-variants.{SME2}
 use Rattle.encoding.specs.declared.ScatterFields.{ScatterFields}
 use Rattle.encoding.specs.declared.StridedFields.{StridedFields}
 use Rattle.encoding.specs.declared.QuadwordFields.{QuadwordFields}
+use Rattle.encoding.specs.declared.Store.{Store}
 use Rattle.encoding.specs.declared.Store.the-variants.{Scatter, Strided, Quadword}
 use Rattle.endian.specs.LittleEndian.{Bytes}
 use Rattle.writes.specs.Elements as W
-use Rattle.endian.proofs.Order.{two}
+use Rattle.endian.proofs.Order.{two, both, absurdly}
 use Rattle.elements.specs.Machine.{Machine, register}
+use Rattle.elements.specs.Counter.{highest}
 use Rattle.elements.specs.Stores.{stepOf, sizeOf, perRegister, strideOf, countOf}
 use Rattle.elements.specs.Accesses.{vectorActive, vectorAddress, vectorElement, stridedActive}
 use Rattle.elements.specs.Accesses.{scatterAccess, quadwordAccess, stridedAccess}
@@ -28,8 +32,10 @@ use Rattle.elements.specs.declared.StridedAccess.{StridedAccess}
 use Rattle.elements.proofs.Shapes.{ScatterIn, QuadwordIn, StridedIn}
 use Rattle.accesses.proofs.Listing.{scatter-count, scatter-active, scatter-element, quadword-count, quadword-active, quadword-element}
 use Rattle.accesses.proofs.Listing.{strided-whole, strided-active, strided-address}
-use Rattle.verdicts.specs.Verdicts.{lengthOk, registersOk}
-use Rattle.inspection.specs.Inspection.{counted, inspectedAt, inspectedFor, inspectedOf}
+use Rattle.verdicts.specs.Verdicts.{oneOfFive, lengthOk, registersOk}
+use Rattle.verdicts.specs.declared.Flags.{Flags}
+use Rattle.checks.proofs.Order.{five-power}
+use Rattle.inspection.specs.Inspection.{counted, inspectedAt, inspectedFor, isStrided, lengthFor, inspectedOf}
 use Rattle.inspection.specs.Steps.{vectorInspected, stridedInspected}
 use Rattle.inspection.specs.declared.Inspected.the-variants.{Length, Registers, Past, Element}
 
@@ -125,35 +131,46 @@ module _ (m : Machine) (e : ℕ) where
 
 -- ---- refusals in their order
 
-module _ (m : Machine) (word e : ℕ) where
-  pub inspected-length : (b : Bool) → b ≡ lengthOk (m .vb) → not b ≡ true → Length ≡ inspectedOf m word e
+-- past 1 VB is a length of the machine's, and a strided word's is one of the five
+pub length-for-ok : (f : Flags) (vb : ℕ) (d : Decoded) → lengthFor f vb d ≡ true → lengthOk (f .early) (f .streaming) vb ≡ true
+unfolding lengthFor
+length-for-ok f vb d e = both (lengthOk (f .early) (f .streaming) vb) (not (isStrided d) || oneOfFive vb) e .0
+
+pub length-for-power : (f : Flags) (vb : ℕ) (s : Store) → lengthFor f vb (Known s) ≡ true → featureOf s ≡ SME2 → 4 * vb ≡ 2 ^ highest vb
+unfolding lengthFor
+length-for-power f vb (Strided g) e q = five-power vb (both (lengthOk (f .early) (f .streaming) vb) (oneOfFive vb) e .1)
+length-for-power f vb (Scatter g) e q = absurdly cc
+length-for-power f vb (Quadword g) e q = absurdly cc
+
+module _ (f : Flags) (m : Machine) (word e : ℕ) where
+  pub inspected-length : (b : Bool) → b ≡ lengthFor f (m .vb) (decodeOf word) → not b ≡ true → Length ≡ inspectedOf f m word e
   unfolding inspectedOf
   inspected-length b q t =
       sym
       (ap (λ (y : Bool). cond y Length (cond (not (registersOk m)) Registers (inspectedFor m (decodeOf word) e))) (ap not (sym q) ∙ t))
 
-  module _ (b : Bool) (q : b ≡ lengthOk (m .vb)) (t : not b ≡ false) where
-    past-1 : inspectedOf m word e ≡ cond (not (registersOk m)) Registers (inspectedFor m (decodeOf word) e)
+  module _ (b : Bool) (q : b ≡ lengthFor f (m .vb) (decodeOf word)) (t : not b ≡ false) where
+    past-1 : inspectedOf f m word e ≡ cond (not (registersOk m)) Registers (inspectedFor m (decodeOf word) e)
     unfolding inspectedOf
     past-1 =
         ap (λ (y : Bool). cond y Length (cond (not (registersOk m)) Registers (inspectedFor m (decodeOf word) e))) (ap not (sym q) ∙ t)
 
-    by-registers : (d : Bool) → registersOk m ≡ d → inspectedOf m word e ≡ cond (not d) Registers (inspectedFor m (decodeOf word) e)
+    by-registers : (d : Bool) → registersOk m ≡ d → inspectedOf f m word e ≡ cond (not d) Registers (inspectedFor m (decodeOf word) e)
     by-registers d r = past-1 ∙ ap (λ (y : Bool). cond (not y) Registers (inspectedFor m (decodeOf word) e)) r
 
-    pub inspected-z : (length (m .z) ≡ 32 * m .vb → ⊥) → Registers ≡ inspectedOf m word e
+    pub inspected-z : (length (m .z) ≡ 32 * m .vb → ⊥) → Registers ≡ inspectedOf f m word e
     unfolding registersOk
     inspected-z h =
         sym (by-registers false (ap (λ (y : Bool). y && eqb (length (m .p)) (2 * m .vb)) (ne-eqb (length (m .z)) (32 * m .vb) h)))
 
     module _ (qz : length (m .z) ≡ 32 * m .vb) where
-      pub inspected-p : (length (m .p) ≡ 2 * m .vb → ⊥) → Registers ≡ inspectedOf m word e
+      pub inspected-p : (length (m .p) ≡ 2 * m .vb → ⊥) → Registers ≡ inspectedOf f m word e
       unfolding registersOk
       inspected-p h =
           sym (by-registers false (ap₂ _&&_ (eq-eqb (length (m .z)) (32 * m .vb) qz) (ne-eqb (length (m .p)) (2 * m .vb) h)))
 
       module _ (qp : length (m .p) ≡ 2 * m .vb) where
-        pub inspected-decoded : (d : Decoded) → d ≡ decodeOf word → inspectedFor m d e ≡ inspectedOf m word e
+        pub inspected-decoded : (d : Decoded) → d ≡ decodeOf word → inspectedFor m d e ≡ inspectedOf f m word e
         unfolding registersOk
         inspected-decoded d r =
             ap (λ (y : Decoded). inspectedFor m y e) r

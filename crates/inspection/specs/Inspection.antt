@@ -1,6 +1,7 @@
--- What element e of a word's store is on a machine. No flag is looked at, and no window judged. Assumes nothing.
+-- What element e of a word's store is on a machine. Of the flags only edition and streaming are looked at, for VB, and no window is
+-- judged. Assumes nothing.
 use Prim.Native.Nat.{ℕ, _+_, _*_}
-use mathlib.Core.Bool.{Bool, true, false, not, cond}
+use mathlib.Core.Bool.{Bool, true, false, not, cond, _&&_, _||_}
 use mathlib.Core.List.{List, [], _∷_}
 use lib.Dec.{ltb}
 use lib.ListN.{replicate}
@@ -9,10 +10,12 @@ use Rattle.encoding.specs.Encoding.{classFor}
 use Rattle.encoding.specs.declared.Decoded.{Decoded}
 use Rattle.encoding.specs.declared.Decoded.the-variants as D
 use Rattle.encoding.specs.declared.Store.{Store}
+use Rattle.encoding.specs.declared.Store.the-variants.{Scatter, Strided, Quadword}
 use Rattle.elements.specs.Machine.{Machine}
 use Rattle.elements.specs.Stores.{sizeOf, countOf, registerIn, indexIn}
 use Rattle.elements.specs.Elements.{activeAt, elementAt}
-use Rattle.verdicts.specs.Verdicts.{lengthOk, registersOk}
+use Rattle.verdicts.specs.Verdicts.{oneOfFive, lengthOk, registersOk}
+use Rattle.verdicts.specs.declared.Flags.{Flags}
 use Rattle.inspection.specs.declared.Inspected.{Inspected}
 use Rattle.inspection.specs.declared.Inspected.the-variants.{Length, Registers, Undefined, Past, Element}
 
@@ -35,10 +38,21 @@ abbrev pub inspectedFor : Machine → Decoded → ℕ → Inspected
 inspectedFor m D.Undefined e = Undefined
 inspectedFor m (D.Known s) e = inspectedAt m s e
 
+abbrev pub isStrided : Decoded → Bool
+isStrided D.Undefined = false
+isStrided (D.Known (Scatter g)) = false
+isStrided (D.Known (Strided g)) = true
+isStrided (D.Known (Quadword g)) = false
+
+-- 1 length, as for a store; a strided word gets it too at a VB that is none of the five, where log2(4·VB) of document 02 (iii) is no whole
+-- number and no strided store is done
+unfoldable pub lengthFor : Flags → ℕ → Decoded → Bool
+lengthFor f vb d = lengthOk (f .early) (f .streaming) vb && (not (isStrided d) || oneOfFive vb)
+
 -- 1, 2, or 4 where the word has no class, in that order; else what element e is
-unfoldable pub inspectedOf : Machine → ℕ → ℕ → Inspected
-inspectedOf m word e =
-    cond (not (lengthOk (m .vb))) Length
+unfoldable pub inspectedOf : Flags → Machine → ℕ → ℕ → Inspected
+inspectedOf f m word e =
+    cond (not (lengthFor f (m .vb) (decodeOf word))) Length
     (cond (not (registersOk m)) Registers
     (inspectedFor m (decodeOf word) e))
 

@@ -1,19 +1,21 @@
-// One element of a word's store on a lent machine: no flag is looked at, and no window judged.
+// One element of a word's store on a lent machine: of the flags only edition and streaming are looked at, for VB, and no window is judged.
 ghost use mathlib.Core.Path.{_≡_};
 ghost use mathlib.Core.Bool.{false};
 ghost use Prim.Native.Nat.{_*_, _^_};
 ghost use lib.ListN.{length};
-ghost use Rattle.encoding.specs.Encoding.{refused};
+ghost use Rattle.encoding.specs.Encoding.{featureOf, refused};
+ghost use Rattle.encoding.specs.declared.Feature.the-variants.{SME2};
 ghost use Rattle.elements.specs.Machine.{machine};
 ghost use Rattle.elements.specs.Counter.{highest};
 ghost use Rattle.elements.specs.Accesses.{VectorSound, StridedSound};
 ghost use Rattle.checks.specs.Checking.{Sound};
-ghost use Rattle.inspection.specs.Inspection.{inspectedAt, inspectedOf};
+ghost use Rattle.inspection.specs.Inspection.{isStrided, lengthFor, inspectedAt, inspectedOf};
 ghost use Rattle.inspection.specs.Steps.{vectorInspected, stridedInspected};
 use elements::StridedAccess;
 use elements::VectorAccess;
 use encoding::Decoded;
 use encoding::Store;
+use verdicts::Flags;
 
 // What an element is: refused with 1, 2, or 4 for a word of no class; past the last of `count` elements; or one of them with its
 // address, the index of its first byte in the Z buffer and its bytes' number.
@@ -79,6 +81,20 @@ fn inspect_strided(s: StridedAccess, vb: usize, e: u64) -> Inspected
     }
 }
 
+// Whether a word is a strided store.
+fn is_strided(decoded: Decoded) -> bool
+    ensures { λ r. ⌜ r ≡ isStrided decoded ⌝ }
+{
+    match decoded {
+        Decoded::Known(store) => match store {
+            Store::Scatter(_) => false,
+            Store::Strided(_) => true,
+            Store::Quadword(_) => false,
+        },
+        Decoded::Undefined => false,
+    }
+}
+
 // Element e of a decoded store.
 fn inspect_store(
     store: Store,
@@ -89,7 +105,7 @@ fn inspect_store(
     p: &[u8],
     e: u64,
 ) -> Inspected
-    requires { ⌜ (refused store ≡ false) × (4 * vb ≡ 2 ^ highest vb) ⌝ }
+    requires { ⌜ (refused store ≡ false) × (featureOf store ≡ SME2 → 4 * vb ≡ 2 ^ highest vb) ⌝ }
     requires { ⌜ Sound vb (now z) (now p) ⌝ }
     ensures { λ r. ⌜ r ≡ inspectedAt (machine vb (now (x .entry)) sp (now (z .entry)) (now (p .entry))) store e ⌝ }
 {
@@ -104,9 +120,18 @@ fn inspect_store(
     }
 }
 
+// Whether VB is a length for the element of a word. A strided word's is one of the five under both editions.
+fn length_for(flags: Flags, vb: usize, decoded: Decoded) -> bool
+    ensures { λ r. ⌜ r ≡ lengthFor flags vb decoded ⌝ }
+{
+    let ok = conditions::length_ok(vb, flags.early, flags.streaming);
+    ok & (!is_strided(decoded) | conditions::one_of_five(vb))
+}
+
 // What element e of the word's store is on the lent machine.
 pub fn inspect(
     vb: usize,
+    flags: Flags,
     x: &[u64; 31],
     sp: u64,
     z: &[u8],
@@ -114,9 +139,10 @@ pub fn inspect(
     word: u32,
     e: u64,
 ) -> Inspected
-    ensures { λ r. ⌜ r ≡ inspectedOf (machine vb (now (x .entry)) sp (now (z .entry)) (now (p .entry))) word e ⌝ }
+    ensures { λ r. ⌜ r ≡ inspectedOf flags (machine vb (now (x .entry)) sp (now (z .entry)) (now (p .entry))) word e ⌝ }
 {
-    if !conditions::length_ok(vb) {
+    let decoded = encoding::decode(word);
+    if !length_for(flags, vb, decoded) {
         return Inspected::Length;
     }
     if z.len() != 32 * vb {
@@ -125,7 +151,7 @@ pub fn inspect(
     if p.len() != 2 * vb {
         return Inspected::Registers;
     }
-    match encoding::decode(word) {
+    match decoded {
         Decoded::Known(store) => inspect_store(store, vb, x, sp, z, p, e),
         Decoded::Undefined => Inspected::Undefined,
     }

@@ -18,6 +18,7 @@ pub fn flags_of(n: u64) -> Flags
         fa64: n / 16 % 2 == 1,
         sp_check: n / 32 % 2 == 1,
         sp_check_none_active: n / 64 % 2 == 1,
+        early: n / 256 % 2 == 1,
     }
 }
 

@@ -12,12 +12,12 @@ use Rattle.window.specs.Window.{windowOk, inWindow, outsideFrom}
 use Rattle.elements.specs.Machine.{bitAt}
 use Rattle.elements.specs.Counter.{lowestSet, highest, countIn, maskBit}
 use Rattle.elements.specs.Elements.{activeAt, elementAt, actives, elements}
-use Rattle.verdicts.specs.Verdicts.{patchOf, lengthOk, registersOk, firstOutside, decided, verdictOf}
+use Rattle.verdicts.specs.Verdicts.{patchOf, oneOfFive, lengthOk, registersOk, firstOutside, decided, verdictOf}
 use Rattle.starred.specs.Cases.{cases, StarredCases}
 
 pub starred-cases : StarredCases
 unfolding classes classAt position any everyBelow inside belongs has multipleOf storeOf indexOf decodeOf rowOf leVal leBytes join runs
     writesAt overwritten written below from splice spliceAll runThen runsThen trailer encodeRuns encode windowOk inWindow outsideFrom bitAt
     lowestSet lowest highest countIn
-    maskBit activeAt elementAt actives elements patchOf lengthOk registersOk firstOutside decided verdictOf stepsFrom cases
+    maskBit activeAt elementAt actives elements patchOf oneOfFive lengthOk registersOk firstOutside decided verdictOf stepsFrom cases
 starred-cases = refl

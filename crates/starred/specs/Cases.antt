@@ -1,8 +1,7 @@
 -- The starred cases of document 01, 'Cases at the edges', and examples of document 02's requests, in one table: each word is decoded and
--- stored on a whole machine. VB is 16.
--- Assumes nothing.
+-- stored on a whole machine. VB is 16 where not said. Assumes nothing.
 use Prim.Native.Nat.{ℕ, _+_, _-_, _*_}
-use mathlib.Core.Bool.{true, false}
+use mathlib.Core.Bool.{Bool, true, false}
 use mathlib.Core.List.{List, [], _∷_, _++_, map}
 use mathlib.Core.Path.{_≡_}
 use lib.IntN.{ℤ, pos, negsuc}
@@ -12,12 +11,12 @@ use Rattle.encoding.specs.declared.Decoded.{Decoded}
 use Rattle.encoding.specs.declared.Decoded.the-variants as D
 use Rattle.encoding.specs.declared.Extension.{Extension}
 use Rattle.encoding.specs.declared.Extension.the-variants.{None, Uxtw, Sxtw}
-use Rattle.encoding.specs.declared.Store.the-variants.{Scatter, Strided}
+use Rattle.encoding.specs.declared.Store.the-variants.{Scatter, Strided, Quadword}
 use Rattle.elements.specs.Machine.{Machine, machine}
 use Rattle.elements.specs.Counter.{counterOf, countIn}
 use Rattle.verdicts.specs.Verdicts.{elementsFor, verdictOf}
 use Rattle.verdicts.specs.declared.Flags.{Flags}
-use Rattle.verdicts.specs.declared.Refusal.the-variants.{Undefined, Fault}
+use Rattle.verdicts.specs.declared.Refusal.the-variants.{Length, Undefined, Illegal, Fault}
 use Rattle.verdicts.specs.declared.Verdict.{Verdict}
 use Rattle.verdicts.specs.declared.Verdict.the-variants.{Done, Refused}
 use Rattle.outcomes.specs.Storing.{memoryAfter}
@@ -73,6 +72,7 @@ plain =
       fa64 = false;
       «sp_check» = false;
       «sp_check_none_active» = false;
+      early = false;
     }
 
 abbrev pub streaming : Flags
@@ -85,7 +85,32 @@ streaming =
       fa64 = false;
       «sp_check» = false;
       «sp_check_none_active» = false;
+      early = false;
     }
+
+-- document 02 (vi): VB 48, quadword stores on, by edition and streaming
+abbrev pub quadwords : Bool → Bool → Flags
+quadwords e s =
+    record {
+      sve = false;
+      sme2 = true;
+      sve2p1 = true;
+      streaming = s;
+      fa64 = true;
+      «sp_check» = false;
+      «sp_check_none_active» = false;
+      early = e;
+    }
+
+-- three quadwords of data in Z0, their offsets 0, 16 and 32 in Z1; P0 has bits 0, 16 and 32
+abbrev pub threes : List ℕ
+threes = row 0 ++ (row 16 ++ row 32)
+
+abbrev pub at48 : Machine
+at48 =
+    machine 48 (0x1000 ∷ replicate 30 0) 0
+    (threes ++ (replicate 16 0 ++ (16 ∷ (replicate 15 0 ++ (32 ∷ (replicate 15 0 ++ replicate 1440 0))))))
+    (1 ∷ 0 ∷ 1 ∷ 0 ∷ 1 ∷ replicate 91 0)
 
 -- an offset element with low half FFFFFFF8h, and one that is 2000000000000001h
 abbrev pub low : List ℕ
@@ -123,6 +148,10 @@ strided c z r = D.Known (Strided (record { class = c; rm = 0; multiple = z; pc =
 -- scatter stores with Zm 1 and Pg, Rn and Zt 0, by class and extension
 abbrev pub scatter : ℕ → Extension → Decoded
 scatter c x = D.Known (Scatter (record { class = c; zm = 1; extension = x; pg = 0; rn = 0; zt = 0 }))
+
+-- a quadword store with Zn 1 and Rm, Pg and Zt 0
+abbrev pub quadword : Decoded
+quadword = D.Known (Quadword (record { class = 12; rm = 0; pg = 0; zn = 1; zt = 0 }))
 
 unfoldable pub cases : List Case
 cases =
@@ -164,6 +193,14 @@ cases =
     ∷ case 0xA1600000 streaming (on zeros 0x0A 0x00) 0x1000 4 (strided 27 (pos 0) 0) (Done 2 2 30 2) (1 ∷ 0 ∷ 3 ∷ 0 ∷ []) 2
     -- a halfword store under a byte counter, one stretch: 0007h counts three bytes, so two halfwords
     ∷ case 0xA1602000 streaming (on zeros 0x07 0x00) 0x1000 4 (strided 31 (pos 0) 0) (Done 2 4 20 1) (take 4 (rows 0)) 3
+    -- document 02 (vi): "under the early edition VB may be any multiple of 16": VB 48 has three quadwords, here one run
+    ∷ case 0xE4202020 (quadwords true false) at48 0x1000 48 quadword (Done 3 48 64 1) threes 0
+    -- "under the late one the five of document 01", and "With streaming on, the five hold under both"
+    ∷ case 0xE4202020 (quadwords false false) at48 0x1000 48 quadword (Refused Length) (replicate 48 0) 0
+    ∷ case 0xE4202020 (quadwords true true) at48 0x1000 48 quadword (Refused Length) (replicate 48 0) 0
+    -- so a strided word gets 1 with streaming on, and 5 with it off
+    ∷ case 0xA1606000 (quadwords true true) at48 0x1000 48 (strided 10 (pos 0) 0) (Refused Length) (replicate 48 0) 0
+    ∷ case 0xA1606000 (quadwords true false) at48 0x1000 48 (strided 10 (pos 0) 0) (Refused Illegal) (replicate 48 0) 0
     ∷ []
 
 -- ---- what the definitions say

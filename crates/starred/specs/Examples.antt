@@ -1,13 +1,16 @@
 -- Document 01's whole example: two stores of this model, done over one window, through demand 3. Its proof is `whole-example` in
 -- proofs/Examples.antt. Assumes nothing.
 use Prim.Native.Nat.{ℕ, _≤_}
+use mathlib.Core.Bool.{true, false}
 use mathlib.Core.List.{List, [], _∷_, _++_}
 use mathlib.Core.Path.{_≡_}
 use lib.ListN.{length, replicate}
 use Rattle.writes.specs.Examples.{examplePatch}
 use Rattle.elements.specs.Machine.{Machine, machine}
 use Rattle.verdicts.specs.Verdicts.{verdictOf}
-use Rattle.verdicts.specs.declared.Verdict.the-variants.{Done}
+use Rattle.verdicts.specs.declared.Flags.{Flags}
+use Rattle.verdicts.specs.declared.Refusal.the-variants.{Length}
+use Rattle.verdicts.specs.declared.Verdict.the-variants.{Done, Refused}
 use Rattle.demands.specs.Demand3.{DoneOver, Filling, patchFor, HandsOut, LeaveTheSame}
 use Rattle.starred.specs.Cases.{plain, streaming}
 
@@ -36,8 +39,11 @@ abbrev pub idle : Machine
 idle = machine 16 (replicate 31 0) 0 (replicate 512 0) (replicate 32 0)
 
 -- every call over a window of L bytes at 1000h, in a buffer with room, hands out s
+abbrev pub HandsOn : Flags → Machine → ℕ → List ℕ → Type 0
+HandsOn f m L s = (mem buffer : List ℕ) → Filling L mem → length s ≤ length buffer → HandsOut f m 0x1000 mem word buffer s
+
 abbrev pub Hands : Machine → ℕ → List ℕ → Type 0
-Hands m L s = (mem buffer : List ℕ) → Filling L mem → length s ≤ length buffer → HandsOut plain m 0x1000 mem word buffer s
+Hands m L s = HandsOn plain m L s
 
 pub record WholeExample : Type 0 where
   pub first-done : DoneOver plain first 0x1000 6 word
@@ -52,6 +58,41 @@ pub record WholeExample : Type 0 where
   -- "No active element, L = 0: done, patch `50 45 00 00`."
   pub idle-done : DoneOver plain idle 0x1000 0 word
   pub idle-patch : Hands idle 0 (0x50 ∷ 0x45 ∷ 0 ∷ 0 ∷ [])
+
+-- ---- document 02 (vi): "Demand 3 spans two stores of different editions."
+
+-- SVE alone, under the early edition
+abbrev pub older : Flags
+older =
+    record {
+      sve = true;
+      sme2 = false;
+      sve2p1 = false;
+      streaming = false;
+      fa64 = false;
+      «sp_check» = false;
+      «sp_check_none_active» = false;
+      early = true;
+    }
+
+-- VB 48: twelve elements, of which 0, 1, 2 and 11 are active, with the whole example's offsets and bytes
+abbrev pub twelve : Machine
+twelve =
+    machine 48 (0x1000 ∷ replicate 30 0) 0
+    ((words 0xFF 0xA1 0xA2 0xA3 0xEE ++ (replicate 16 0xEE ++ words 0xFF 0xEE 0xEE 0xEE 0xA4))
+    ++ ((words 0 0 1 1 3 ++ (replicate 16 3 ++ words 0 3 3 3 5)) ++ replicate 1440 0))
+    (0x11 ∷ 0x01 ∷ 0 ∷ 0 ∷ 0 ∷ 0x10 ∷ replicate 90 0)
+
+-- the store of VB 48 under the early edition and that of VB 16 under the late one have the same patch, and leave the same memory
+pub record BothEditions : Type 0 where
+  pub early-done : DoneOver older twelve 0x1000 6 word
+  pub late-done : DoneOver plain first 0x1000 6 word
+  pub early-counted : verdictOf older twelve 0x1000 6 word 31 ≡ Done 4 4 31 3
+  pub early-patch : HandsOn older twelve 6 examplePatch
+  pub late-patch : HandsOn plain first 6 examplePatch
+  pub same-memory : LeaveTheSame 0x1000 6 older twelve word plain first word
+  -- under the late edition the first is refused with 1
+  pub refused : verdictOf plain twelve 0x1000 6 word 31 ≡ Refused Length
 
 -- "A byte store under a halfword counter writes every second byte, so 512 runs can occur"; "the largest store patch is 6,660 bytes"
 -- (document 02 (vii)): class 28 at VB 256 with all of its counter's elements active (8002h in P8)

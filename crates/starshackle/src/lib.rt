@@ -83,10 +83,12 @@ pub extern "C" fn starshackle_store(
     answered(v, answer)
 }
 
-// What element e of the word's store is, whatever the flags: 0 and the element's five answers, or 1, 2 or 4 and zeros.
+// What element e of the word's store is: 0 and the element's five answers, or 1, 2 or 4 and zeros. Of the flags only edition and streaming
+// count, in 1, which a strided word gets too at a VB that is none of the five.
 #[no_mangle]
 pub extern "C" fn starshackle_element(
     vb: usize,
+    flags: u64,
     x: &[u64; 31],
     sp: u64,
     z: &[u8],
@@ -96,10 +98,10 @@ pub extern "C" fn starshackle_element(
     answer: &mut [u64; 5],
 ) -> u64
     ensures { λ r.
-        ⌜ Answers (λ i. i ≡ inspectedOf (machine vb (now (x .entry)) sp (now (z .entry)) (now (p .entry))) word e)
+        ⌜ Answers (λ i. i ≡ inspectedOf (flagsOf flags) (machine vb (now (x .entry)) sp (now (z .entry)) (now (p .entry))) word e)
         inspectedNumber inspectedAnswers r (now (answer .exit)) ⌝ }
 {
-    let inspected = inspection::inspect(vb, x, sp, z, p, word, e);
+    let inspected = inspection::inspect(vb, flags_of(flags), x, sp, z, p, word, e);
     *answer = inspecting::answers_of(inspected);
     inspecting::number_of(inspected)
 }

@@ -56,7 +56,7 @@ table-given-when f m W L d room =
     let k = length (patchOf (elementsFor m d)) in
     let line = line-of f m W L d room in
     record {
-      vector-length = line 1 then length-given (m .vb);
+      vector-length = line 1 then length-given (f .early) (f .streaming) (m .vb);
       registers = line 2 then registers-given m;
       window = line 3 then window-given W L;
       undefined = line 4 then undefined-given f d;

@@ -4,10 +4,10 @@ use mathlib.Core.Bool.{Bool, true, false, not, cond, _&&_, _||_}
 use mathlib.Core.List.{List, [], _∷_}
 use mathlib.Core.Logic.{_↔_, _⊎_, inl, inr, ⊎-elim}
 use mathlib.Core.Option.{some}
-use Prim.Native.Nat.{ℕ, _+_, _*_, _%_, _^_, _<_}
+use Prim.Native.Nat.{ℕ, _+_, _*_, _/_, _%_, _^_, _<_}
 use native.Mathlib.Omega.{arith}
-use borrow.Author.Tests.{eqb-true, eq-eqb}
-use lib.Dec.{eqb}
+use borrow.Author.Tests.{eqb-true, eq-eqb, leb-true, le-leb}
+use lib.Dec.{eqb, leb}
 use lib.ListN.{length}
 use Rattle.encoding.specs.declared.Decoded.{Decoded}
 use Rattle.encoding.specs.declared.Decoded.the-variants as D
@@ -19,9 +19,10 @@ use Rattle.endian.proofs.Order.{two, absurdly, not-both, both, told}
 use Rattle.window.proofs.Windows.{window-true, window-false, in-window-inv}
 use Rattle.elements.specs.Machine.{Machine}
 use Rattle.elements.specs.Elements.{elements}
-use Rattle.verdicts.specs.Verdicts.{elementsFor, lengthOk, registersOk, undefined, illegalFor, someActive, stackFor}
+use Rattle.verdicts.specs.Verdicts.{elementsFor, oneOfFive, lengthOk, registersOk, undefined, illegalFor, someActive, stackFor}
 use Rattle.verdicts.specs.Verdicts.{firstOutside, found}
-use Rattle.verdicts.specs.Statements.{Listed, here, there, OneOfFive, NoClassOrOff, NotInThisMode, BasedOnSp}
+use Rattle.verdicts.specs.Statements.{Listed, here, there, OneOfFive, AnyMultiple, AllowedLength}
+use Rattle.verdicts.specs.Statements.{NoClassOrOff, NotInThisMode, BasedOnSp}
 use Rattle.verdicts.specs.declared.Flags.{Flags}
 
 -- ---- tests
@@ -40,8 +41,8 @@ never e = absurdly cc
 
 -- ---- 1 to 3
 
-pub one-of-five : (vb : ℕ) → lengthOk vb ≡ true → OneOfFive vb
-unfolding lengthOk
+pub one-of-five : (vb : ℕ) → oneOfFive vb ≡ true → OneOfFive vb
+unfolding oneOfFive
 one-of-five vb e =
     ⊎-elim (λ h. inl (eqb-true vb 16 h))
     (⊎-elim (λ h. inr (inl (eqb-true vb 32 h)))
@@ -49,16 +50,46 @@ one-of-five vb e =
     (⊎-elim (λ h. inr (inr (inr (inl (eqb-true vb 128 h))))) (λ h. inr (inr (inr (inr (eqb-true vb 256 h))))))))
     (one-of (eqb vb 16) (eqb vb 32) (eqb vb 64) (eqb vb 128) (eqb vb 256) e)
 
-five-ok : (vb : ℕ) → OneOfFive vb → lengthOk vb ≡ true
-unfolding lengthOk
-five-ok vb (inl e) = subst (λ (n : ℕ). lengthOk n ≡ true) (sym e) refl
-five-ok vb (inr (inl e)) = subst (λ (n : ℕ). lengthOk n ≡ true) (sym e) refl
-five-ok vb (inr (inr (inl e))) = subst (λ (n : ℕ). lengthOk n ≡ true) (sym e) refl
-five-ok vb (inr (inr (inr (inl e)))) = subst (λ (n : ℕ). lengthOk n ≡ true) (sym e) refl
-five-ok vb (inr (inr (inr (inr e)))) = subst (λ (n : ℕ). lengthOk n ≡ true) (sym e) refl
+pub five-ok : (vb : ℕ) → OneOfFive vb → oneOfFive vb ≡ true
+unfolding oneOfFive
+five-ok vb (inl e) = subst (λ (n : ℕ). oneOfFive n ≡ true) (sym e) refl
+five-ok vb (inr (inl e)) = subst (λ (n : ℕ). oneOfFive n ≡ true) (sym e) refl
+five-ok vb (inr (inr (inl e))) = subst (λ (n : ℕ). oneOfFive n ≡ true) (sym e) refl
+five-ok vb (inr (inr (inr (inl e)))) = subst (λ (n : ℕ). oneOfFive n ≡ true) (sym e) refl
+five-ok vb (inr (inr (inr (inr e)))) = subst (λ (n : ℕ). oneOfFive n ≡ true) (sym e) refl
 
-pub length-given : (vb : ℕ) → (not (lengthOk vb) ≡ true) ↔ (OneOfFive vb → ⊥)
-length-given vb = denied (lengthOk vb) (one-of-five vb) (five-ok vb)
+-- a length that is taken is allowed
+pub length-allowed : (early streaming : Bool) (vb : ℕ) → lengthOk early streaming vb ≡ true → AllowedLength early streaming vb
+unfolding lengthOk
+length-allowed true false vb e =
+    let (d, (l, (h, u))) = told (eqb (vb % 16) 0) (leb 16 vb ∷ leb vb 256 ∷ []) e in
+    ((vb / 16, omega (arith, eqb-true (vb % 16) 0 d)), leb-true 16 vb l, leb-true vb 256 h)
+length-allowed true true vb e = one-of-five vb e
+length-allowed false streaming vb e = one-of-five vb e
+
+allowed-ok : (early streaming : Bool) (vb : ℕ) → AllowedLength early streaming vb → lengthOk early streaming vb ≡ true
+unfolding lengthOk
+allowed-ok true false vb ((k, e), l, h) = cc (eq-eqb (vb % 16) 0 (omega (arith, e)), le-leb 16 vb l, le-leb vb 256 h)
+allowed-ok true true vb o = five-ok vb o
+allowed-ok false streaming vb o = five-ok vb o
+
+-- the five are multiples, and lengths of both editions
+pub five-multiple : (vb : ℕ) → OneOfFive vb → AnyMultiple vb
+five-multiple vb (inl e) = ((1, e), omega arith, omega arith)
+five-multiple vb (inr (inl e)) = ((2, e), omega arith, omega arith)
+five-multiple vb (inr (inr (inl e))) = ((4, e), omega arith, omega arith)
+five-multiple vb (inr (inr (inr (inl e)))) = ((8, e), omega arith, omega arith)
+five-multiple vb (inr (inr (inr (inr e)))) = ((16, e), omega arith, omega arith)
+
+pub five-allowed : (early streaming : Bool) (vb : ℕ) → oneOfFive vb ≡ true → lengthOk early streaming vb ≡ true
+five-allowed true false vb e = allowed-ok true false vb (five-multiple vb (one-of-five vb e))
+five-allowed true true vb e = allowed-ok true true vb (one-of-five vb e)
+five-allowed false streaming vb e = allowed-ok false streaming vb (one-of-five vb e)
+
+pub length-given : (early streaming : Bool) (vb : ℕ)
+    → (not (lengthOk early streaming vb) ≡ true) ↔ (AllowedLength early streaming vb → ⊥)
+length-given early streaming vb =
+    denied (lengthOk early streaming vb) (length-allowed early streaming vb) (allowed-ok early streaming vb)
 
 pub registers-given : (m : Machine)
     → (not (registersOk m) ≡ true) ↔ ((length (m .z) ≡ 32 * m .vb) × (length (m .p) ≡ 2 * m .vb) → ⊥)

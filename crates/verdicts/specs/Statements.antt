@@ -1,6 +1,6 @@
 -- What is promised of the table of verdicts. Each has its proof in proofs/Statements.antt. Assumes nothing.
-use Prim.Native.Nat.{ℕ, _+_, _*_, _%_, _^_, _<_}
-use mathlib.Core.Bool.{true, false, cond}
+use Prim.Native.Nat.{ℕ, _+_, _*_, _%_, _^_, _≤_, _<_}
+use mathlib.Core.Bool.{Bool, true, false, cond}
 use mathlib.Core.List.{List, [], _∷_, map}
 use mathlib.Core.Logic.{_↔_, _⊎_}
 use mathlib.Core.Path.{_≡_}
@@ -77,6 +77,17 @@ pub data Listed (x : Element) : List Element → Type 0 where
 abbrev pub OneOfFive : ℕ → Type 0
 OneOfFive vb = (vb ≡ 16) ⊎ ((vb ≡ 32) ⊎ ((vb ≡ 64) ⊎ ((vb ≡ 128) ⊎ (vb ≡ 256))))
 
+-- "any multiple of 16 from 16 to 256" (document 02 (vi))
+abbrev pub AnyMultiple : ℕ → Type 0
+AnyMultiple vb = ((k : ℕ) × (vb ≡ k * 16)) × (16 ≤ vb) × (vb ≤ 256)
+
+-- "under the early edition VB may be any multiple of 16 from 16 to 256, under the late one the five of document 01. With streaming on, the
+-- five hold under both.", by edition and streaming
+abbrev pub AllowedLength : Bool → Bool → ℕ → Type 0
+AllowedLength true false vb = AnyMultiple vb
+AllowedLength true true vb = OneOfFive vb
+AllowedLength false streaming vb = OneOfFive vb
+
 -- "no class, or flag off: SVE for 1..7, SME2 for 8..11, SVE2p1 for 12": scatter, strided and quadword stores; document 02 (i), of 13
 -- to 24, which are scatter stores: "All need the SVE flag and are illegal as classes 1 to 7 are."; (vii), of 25 to 36, which are strided:
 -- "All need SME2 and are illegal as classes 8 to 11 are"
@@ -101,8 +112,8 @@ BasedOnSp (D.Known (Strided g)) = g .rn ≡ 31
 BasedOnSp (D.Known (Quadword g)) = ⊥
 
 pub record GivenWhen (f : Flags) (m : Machine) (W L : ℕ) (d : Decoded) (room : ℕ) : Type 0 where
-  -- "VB is not one of the five"
-  pub vector-length : Given 1 (table f m W L d room) ↔ (OneOfFive (m .vb) → ⊥)
+  -- "VB is not one of the five"; "Verdict 1 is amended accordingly and keeps its place." (document 02 (vi))
+  pub vector-length : Given 1 (table f m W L d room) ↔ (AllowedLength (f .early) (f .streaming) (m .vb) → ⊥)
   -- "Z or P buffer has another size"
   pub registers : Given 2 (table f m W L d room) ↔ ((length (m .z) ≡ 32 * m .vb) × (length (m .p) ≡ 2 * m .vb) → ⊥)
   -- "L > 65,536 or W + L > 2^64"

@@ -4,7 +4,7 @@ use Prim.Native.Nat.{ℕ, _*_, _%_}
 use mathlib.Core.Bool.{Bool, true, false, not, cond, _&&_, _||_}
 use mathlib.Core.List.{List, [], _∷_}
 use mathlib.Core.Option.{Option, none, some}
-use lib.Dec.{eqb, ltb}
+use lib.Dec.{eqb, ltb, leb}
 use lib.ListN.{length}
 use Rattle.encoding.specs.declared.Feature.{Feature}
 use Rattle.encoding.specs.declared.Feature.the-variants.{SVE, SME2, SVE2p1}
@@ -45,8 +45,13 @@ patchOf es = encode (netEffect es)
 -- ---- the conditions
 
 -- 1 length: "VB is not one of the five"
-unfoldable pub lengthOk : ℕ → Bool
-lengthOk vb = eqb vb 16 || eqb vb 32 || eqb vb 64 || eqb vb 128 || eqb vb 256
+unfoldable pub oneOfFive : ℕ → Bool
+oneOfFive vb = eqb vb 16 || eqb vb 32 || eqb vb 64 || eqb vb 128 || eqb vb 256
+
+-- amended by document 02 (vi): "under the early edition VB may be any multiple of 16 from 16 to 256, under the late one the five of
+-- document 01. With streaming on, the five hold under both."
+unfoldable pub lengthOk : Bool → Bool → ℕ → Bool
+lengthOk early streaming vb = cond (early && not streaming) (eqb (vb % 16) 0 && leb 16 vb && leb vb 256) (oneOfFive vb)
 
 -- 2 registers: "Z or P buffer has another size" than 32·VB and 2·VB bytes
 unfoldable pub registersOk : Machine → Bool
@@ -121,7 +126,7 @@ row n c r = record { number = n; given = c; returned = r }
 -- `room` bytes
 abbrev pub table : Flags → Machine → ℕ → ℕ → Decoded → ℕ → List Row
 table f m W L d room =
-    row 1 (not (lengthOk (m .vb))) Length
+    row 1 (not (lengthOk (f .early) (f .streaming) (m .vb))) Length
     ∷ row 2 (not (registersOk m)) Registers
     ∷ row 3 (not (windowOk W L)) Window
     ∷ row 4 (undefined f d) Undefined

@@ -8,6 +8,8 @@ pub struct Flags {
     pub sp_check: bool,
     // SP is checked with nothing active too.
     pub sp_check_none_active: bool,
+    // Bit 8 at the interface: the machine follows the early edition of Arm's SVE supplement (document 02 (vi)), else the late one.
+    pub early: bool,
 }
 
 // Document 01's refusals 1 to 8.

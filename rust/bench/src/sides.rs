@@ -26,8 +26,9 @@ pub const SIDES: [Side; 3] = [
     Side {
         name: "idiomatic",
         store: |machine, Window { base, memory }, word, patch, answer| {
-            let Machine { vb, flags, ref x, sp, z, p } = *machine;
-            idiomatic::store(vb, flags.0, x, sp, z, p, base, memory, word, patch, answer)
+            let Machine { vb, ref x, sp, z, p, .. } = *machine;
+            let flags = machine.flag_bits();
+            idiomatic::store(vb, flags, x, sp, z, p, base, memory, word, patch, answer)
         },
         apply: idiomatic::apply,
         decode: idiomatic::decode,
@@ -35,8 +36,9 @@ pub const SIDES: [Side; 3] = [
     Side {
         name: "hand",
         store: |machine, Window { base, memory }, word, patch, answer| {
-            let Machine { vb, flags, ref x, sp, z, p } = *machine;
-            hand::store(vb, flags.0, x, sp, z, p, base, memory, word, patch, answer)
+            let Machine { vb, ref x, sp, z, p, .. } = *machine;
+            let flags = machine.flag_bits();
+            hand::store(vb, flags, x, sp, z, p, base, memory, word, patch, answer)
         },
         apply: hand::apply,
         decode: hand::decode,

@@ -18,6 +18,7 @@ mod fields;
 mod input;
 mod json;
 mod known;
+mod length;
 mod missing;
 mod numbers;
 mod output;

@@ -3,6 +3,7 @@
 use crate::arguments::Arguments;
 use crate::command::{Command, Failure, Report};
 use crate::json::Json;
+use crate::length::Length;
 use crate::missing::{Missing, REQUIRE};
 use crate::output::{self, Output};
 use crate::store::{self, Described};
@@ -19,16 +20,18 @@ usage: starshackle patch [--json] [--require-registers] FILE -o OUT
 Writes the patch of a store to OUT: applying it leaves what running the store leaves, whatever the
 window's bytes are. Shows the verdict with its detail, the counts that `run` shows, and the patch's
 length.
-All this is the proved model's answer. The note about registers that aren't given is not proved.
+All this is the proved model's answer. The notes about registers that aren't given and about the
+rule that refused vb (verdict 1) are not proved.
 Where the model refuses, OUT is left as it was. OUT may not be FILE.
 
 ",
         store_help!(),
         "
-With --json the answer is an object. Its keys: verdict, verdict_name, not_given (the note's
-registers), detail (of a fault: element, and address, which is that of its first byte outside the
-window, modulo 2^64), active_elements, bytes_moved, steps, length (the patch's), patch (its bytes in
-hexadecimal). They are null where there is nothing to say.
+With --json the answer is an object. Its keys: verdict, verdict_name, length_rule (the note about
+vb: vb, edition, streaming, allowed), not_given (the note's registers), detail (of a fault: element,
+and address, which is that of its first byte outside the window, modulo 2^64), active_elements,
+bytes_moved, steps, length (the patch's), patch (its bytes in hexadecimal). They are null where
+there is nothing to say.
 
 Exit status: 0 done, 1 refused by the model, 2 bad usage, a file that can't be read or written, or a
 register that is required and not given.
@@ -48,11 +51,12 @@ fn run(arguments: &Arguments) -> Result<Report, Failure> {
     let outcome = make(&described, &mut buffer);
     let missing = Missing::of(described.word, &described.registers, &outcome);
     missing.check(arguments, file)?;
+    let rule = Length::of(&described.registers.machine(), &outcome);
     let patch = outcome.as_ref().ok().map(|stored| &buffer[..stored.length]);
     let text = if arguments.json {
-        json(&outcome, &missing, patch)
+        json(&outcome, rule, &missing, patch)
     } else {
-        text(&outcome) + &missing.text()
+        text(&outcome) + &rule.map_or(String::new(), |rule| rule.text()) + &missing.text()
     };
     let output = patch.map(|patch| Output::prepare(out, patch)).transpose()?;
     Ok(Report { text, refused: patch.is_none(), output })
@@ -71,8 +75,14 @@ fn text(outcome: &Result<Stored, Refusal>) -> String {
     })
 }
 
-fn json(outcome: &Result<Stored, Refusal>, missing: &Missing, patch: Option<&[u8]>) -> String {
+fn json(
+    outcome: &Result<Stored, Refusal>,
+    rule: Option<Length>,
+    missing: &Missing,
+    patch: Option<&[u8]>,
+) -> String {
     let mut members = Vec::from(verdicts::members(Verdict::of(outcome)));
+    members.push(("length_rule", rule.map(|rule| rule.json()).into()));
     members.push(("not_given", missing.json()));
     members.extend(verdicts::store_members(outcome));
     members.extend([

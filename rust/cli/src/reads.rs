@@ -115,7 +115,7 @@ mod tests {
             let features = Flags::SVE | Flags::SME2 | Flags::SVE2P1;
             let flags = features | Flags::STREAMING | Flags::FA64;
             let Held { x, sp, ref z, ref p } = *self;
-            let machine = Machine { vb: VB, flags, x, sp, z, p };
+            let machine = Machine { vb: VB, flags, x, sp, z, p, ..Machine::default() };
             let (mut memory, mut patch) = (vec![0; 0xA000], vec![0; LARGEST_STORE_PATCH]);
             let window = Window { base: 0, memory: &mut memory };
             let outcome = store(&machine, window, word, &mut patch);

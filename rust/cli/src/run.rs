@@ -5,6 +5,7 @@ use crate::command::{Command, Failure, Report};
 use crate::counter::Counter;
 use crate::json::Json;
 use crate::known::{self, Known};
+use crate::length::Length;
 use crate::missing::{Missing, REQUIRE};
 use crate::picture::{line, picture};
 use crate::store::{self, Described};
@@ -28,8 +29,9 @@ where the active one before them ends.
 A fault (verdict 7) names the lowest active element with a byte outside the window, and the address,
 modulo 2^64, of the first of its bytes that isn't in the window. That byte is shown in ( ).
 All this is the proved model's answer. The assembly text, the note about registers that aren't
-given, the notes that say how the counter of a strided store is read, and so why an element is
-active, and the note that numbers the byte in ( ), are not proved.
+given, the note that says which rule refused vb (verdict 1), the notes that say how the counter of a
+strided store is read, and so why an element is active, and the note that numbers the byte in ( ),
+are not proved.
 A counter is the low 16 bits of its register. The lowest set one of its bits 0 to 3 is its element
 size, 8 to 64 bits; without one nothing is active. The bits above that one, up to bit log2(4 VB),
 which is 6 at VB 16 and 10 at VB 256, are the count: so many elements of that size, from the first
@@ -41,7 +43,8 @@ of a wider size than the store's elements leaves those between inactive, and the
         store_help!(),
         "
 With --json the answer is an object. Its keys: word, verdict, verdict_name, class, class_name,
-fields, counter, assembly (as in `starshackle decode`), not_given (the note's registers),
+fields, counter, assembly (as in `starshackle decode`), length_rule (the note about vb: vb, edition,
+streaming, allowed, which are the lengths that the rule allows), not_given (the note's registers),
 counter_means (the notes about the counter: register, value, element_size, store_element_size,
 every, which is 2 where every second element of the store starts one of the counter's, count,
 inverted, highest_bit, ignored, which are the bits that are set and ignored), detail (of a fault:
@@ -73,6 +76,8 @@ struct Answer {
     known: Option<Known>,
     outcome: Result<Stored, Refusal>,
     missing: Missing,
+    /// None where VB is allowed.
+    length_rule: Option<Length>,
     /// None where there are no elements.
     counter: Option<Counter>,
     elements: Vec<Row>,
@@ -97,17 +102,30 @@ impl Answer {
         let outcome = word.and_then(store);
         let elements = word.map_or(Vec::new(), |word| rows(&machine, word));
         let missing = Missing::of(word, &registers, &outcome);
+        let length_rule = Length::of(&machine, &outcome);
         let (word, known) = (word.ok(), word.and_then(Known::decode).ok());
         let counter = known.as_ref().zip(elements.first()).and_then(|(known, first)| {
             Counter::of(known, &machine, elements.len(), first.element.bytes)
         });
-        Answer { word, known, outcome, missing, counter, elements, base, length, memory }
+        Answer {
+            word,
+            known,
+            outcome,
+            missing,
+            length_rule,
+            counter,
+            elements,
+            base,
+            length,
+            memory,
+        }
     }
 
     fn text(&self) -> String {
         let parts = [self.store_text(), self.elements_text(), self.window_text()];
         let parts: String = parts.into_iter().flatten().map(|part| format!("\n{part}")).collect();
-        verdicts::text(&self.outcome, verdicts::counts) + &self.missing.text() + &parts
+        let rule = self.length_rule.as_ref().map_or(String::new(), Length::text);
+        verdicts::text(&self.outcome, verdicts::counts) + &rule + &self.missing.text() + &parts
     }
 
     fn store_text(&self) -> Option<String> {
@@ -179,6 +197,7 @@ impl Answer {
         let mut members = vec![("word", self.word.map(numbers::hexadecimal).into())];
         members.extend(verdicts::members(Verdict::of(&self.outcome)));
         members.extend(known::members(self.known.as_ref()));
+        members.push(("length_rule", self.length_rule.as_ref().map(Length::json).into()));
         members.push(("not_given", self.missing.json()));
         members.push(("counter_means", self.counter.as_ref().map(Counter::json).into()));
         members.extend(verdicts::store_members(&self.outcome));

@@ -18,7 +18,7 @@ fn main() -> Result<(), Box<dyn Error>> {
     let (z, p) = (vectors(), [0xFF; 2 * VB]);
     let mut x = [0; 31];
     x[0] = BASE;
-    let machine = Machine { vb: VB, flags: Flags::SVE, x, sp: 0, z: &z, p: &p };
+    let machine = Machine { vb: VB, flags: Flags::SVE, x, z: &z, p: &p, ..Machine::default() };
 
     let text = assembly::text(&decode(WORD)?).unwrap_or_default();
     println!("{WORD:08X}: {text} (the text isn't proved)");

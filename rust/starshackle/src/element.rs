@@ -15,10 +15,11 @@ pub struct Element {
     pub bytes: u64,
 }
 
-/// The element with this number of the store that a word names, none past the last; flags and
-/// memory play no part. A strided store's elements are numbered through all its registers. Refused
-/// with [`Refusal::Length`], [`Refusal::Registers`] or, when the word has no class,
-/// [`Refusal::Undefined`].
+/// The element with this number of the store that a word names, none past the last. Memory plays no
+/// part, and of the flags only streaming does, with the edition, in [`Refusal::Length`]. A strided
+/// store's elements are numbered through all its registers. Refused with [`Refusal::Length`],
+/// [`Refusal::Registers`] or, when the word has no class, [`Refusal::Undefined`]. A strided word gets
+/// the first at each length that isn't 16, 32, 64, 128 or 256, also under the early edition.
 ///
 /// ```
 /// use starshackle::{element, Element, Machine};

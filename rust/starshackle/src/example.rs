@@ -25,5 +25,5 @@ pub fn z(data: [u32; 4], offsets: [u32; 4]) -> Vec<u8> {
 pub fn machine(z: &[u8]) -> Machine<'_> {
     let mut x = [0; 31];
     x[0] = 0x1000;
-    Machine { vb: VB, flags: Flags::SVE, x, sp: 0, z, p: &[0xFF; 2 * VB] }
+    Machine { vb: VB, flags: Flags::SVE, x, z, p: &[0xFF; 2 * VB], ..Machine::default() }
 }

@@ -100,6 +100,7 @@ extern "C" {
     ) -> u64;
     fn starshackle_element(
         vb: usize,
+        flags: u64,
         x: *const [u64; 31],
         sp: u64,
         z: *const u8,
@@ -135,7 +136,8 @@ pub fn store_numbers(
     patch: &mut [u8],
     answer: &mut StoreAnswer,
 ) -> u64 {
-    let Machine { vb, flags, ref x, sp, z, p } = *machine;
+    let Machine { vb, ref x, sp, z, p, .. } = *machine;
+    let flags = machine.flag_bits();
     let Window { base, memory } = window;
     let (z_len, p_len, memory_len, patch_len) = (z.len(), p.len(), memory.len(), patch.len());
     let (z, p, memory, patch) = (z.as_ptr(), p.as_ptr(), memory.as_mut_ptr(), patch.as_mut_ptr());
@@ -144,8 +146,8 @@ pub fn store_numbers(
     // entries alone, which overlap neither each other nor what it reads, and keeps no pointer.
     unsafe {
         starshackle_store(
-            vb, flags.0, x, sp, z, z_len, p, p_len, base, memory, memory_len, word, patch,
-            patch_len, answer,
+            vb, flags, x, sp, z, z_len, p, p_len, base, memory, memory_len, word, patch, patch_len,
+            answer,
         )
     }
 }
@@ -165,8 +167,9 @@ pub fn store_numbers(
 /// ```
 pub fn element_numbers(machine: &Machine, word: u32, number: u64, answer: &mut Answer) -> u64 {
     let Machine { vb, ref x, sp, z, p, .. } = *machine;
+    let flags = machine.flag_bits();
     let (z_len, p_len) = (z.len(), p.len());
     let (z, p) = (z.as_ptr(), p.as_ptr());
     // SAFETY: as above; it writes to the five entries alone.
-    unsafe { starshackle_element(vb, x, sp, z, z_len, p, p_len, word, number, answer) }
+    unsafe { starshackle_element(vb, flags, x, sp, z, z_len, p, p_len, word, number, answer) }
 }

@@ -3,7 +3,7 @@
 use std::ops::{BitOr, BitOrAssign};
 
 /// What the machine has and which state it is in: a set of bits, of which others than the named
-/// ones mean nothing.
+/// ones mean nothing. Which [`Edition`](crate::Edition) it follows isn't among them.
 ///
 /// ```
 /// use starshackle::Flags;

@@ -32,7 +32,7 @@
 //! let p = [0xFF; 2 * VB]; // every element is active
 //! let mut x = [0; 31];
 //! x[0] = 0x1000; // the base
-//! let machine = Machine { vb: VB, flags: Flags::SVE, x, sp: 0, z: &z, p: &p };
+//! let machine = Machine { vb: VB, flags: Flags::SVE, x, z: &z, p: &p, ..Machine::default() };
 //!
 //! let (mut memory, mut buffer) = ([0; 8], [0; LARGEST_STORE_PATCH]);
 //! let window = Window { base: 0x1000, memory: &mut memory };
@@ -51,6 +51,7 @@
 #![warn(missing_docs)]
 
 pub mod assembly;
+mod edition;
 mod element;
 #[cfg(test)]
 mod example;
@@ -64,6 +65,7 @@ mod verdict;
 mod window;
 mod word;
 
+pub use edition::{Edition, LengthRule};
 pub use element::{element, elements, Element};
 pub use ffi::{apply_numbers, decode_fields, element_numbers, encode_fields};
 pub use ffi::{judge_numbers, store_numbers};

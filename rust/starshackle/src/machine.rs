@@ -1,6 +1,6 @@
 //! The machine that a store runs on.
 
-use crate::Flags;
+use crate::{Edition, Flags};
 
 /// The registers that a store reads, and the machine's flags. Nothing is asked of them: whatever
 /// they are gets its verdict. The default has nothing, not even a length.
@@ -14,10 +14,13 @@ use crate::Flags;
 /// ```
 #[derive(Clone, Copy, Debug, Default, PartialEq, Eq)]
 pub struct Machine<'a> {
-    /// The vector length in bytes: 16, 32, 64, 128 or 256.
+    /// The vector length in bytes: 16, 32, 64, 128 or 256; under the early edition, with streaming
+    /// off, any multiple of 16 from 16 to 256.
     pub vb: usize,
     /// What the machine has and which state it is in.
     pub flags: Flags,
+    /// Which edition of Arm's SVE supplement it follows: late by default.
+    pub edition: Edition,
     /// X0 to X30.
     pub x: [u64; 31],
     /// SP: register 31 as a base. Register 31 as Rm is zero.
@@ -34,4 +37,23 @@ pub struct Machine<'a> {
     /// active if it starts where one of the first `count` of them starts, or, where bit 15 is set, where
     /// another of them starts. So a counter of a wider size than the store's elements leaves gaps.
     pub p: &'a [u8],
+}
+
+impl Machine<'_> {
+    /// Flags and edition as the library takes them: the early edition is bit 8, and what the flags have
+    /// in that place means nothing.
+    ///
+    /// ```
+    /// use starshackle::{Edition, Flags, Machine};
+    ///
+    /// let machine = Machine { flags: Flags::SVE, edition: Edition::Early, ..Machine::default() };
+    /// assert_eq!(machine.flag_bits(), 0x101);
+    /// ```
+    pub fn flag_bits(&self) -> u64 {
+        const EARLY: u64 = 1 << 8;
+        match self.edition {
+            Edition::Early => self.flags.0 | EARLY,
+            Edition::Late => self.flags.0 & !EARLY,
+        }
+    }
 }

@@ -17,7 +17,8 @@ use std::fmt::{self, Display, Formatter};
 pub enum Verdict {
     /// Not refused.
     Done = 0,
-    /// VB isn't 16, 32, 64, 128 or 256.
+    /// VB isn't 16, 32, 64, 128 or 256; under the early edition, with streaming off: it isn't a
+    /// multiple of 16 from 16 to 256.
     Length = 1,
     /// The Z buffer has other than 32 times VB bytes, or the P buffer other than twice VB.
     Registers = 2,
@@ -41,6 +42,8 @@ pub enum Verdict {
     Fields = 11,
 }
 
+const LENGTH: &str = "VB isn't 16, 32, 64, 128 or 256 (early edition, streaming off: \
+                      any multiple of 16 from 16 to 256)";
 const UNDEFINED: &str = "the word has no class, or its class needs a flag that is off: \
                          sve for 1 to 7 and 13 to 24, sme2 for 8 to 11 and 25 to 36, \
                          sve2p1 for 12";
@@ -50,7 +53,7 @@ const ILLEGAL: &str = "classes 1 to 7 and 12 to 24 need streaming off or fa64 on
 /// By number: the verdict, its name, and when it is given.
 const VERDICTS: [(Verdict, &str, &str); 12] = [
     (Verdict::Done, "done", ""),
-    (Verdict::Length, "length", "VB isn't 16, 32, 64, 128 or 256"),
+    (Verdict::Length, "length", LENGTH),
     (Verdict::Registers, "registers", "the Z or P buffer has another size"),
     (
         Verdict::Window,
@@ -116,7 +119,7 @@ impl Verdict {
     /// When it is given; nothing for [`Verdict::Done`].
     ///
     /// ```
-    /// assert_eq!(starshackle::Verdict::Length.cause(), "VB isn't 16, 32, 64, 128 or 256");
+    /// assert_eq!(starshackle::Verdict::Fields.cause(), "no word has these fields");
     /// ```
     pub fn cause(self) -> &'static str {
         VERDICTS[self as usize].2

@@ -10,7 +10,7 @@ fn active(vb: usize, word: u32, counter: u16) -> Vec<u64> {
     let (z, mut p) = (vec![0xA5; 32 * vb], vec![0; 2 * vb]);
     p[vb..vb + 2].copy_from_slice(&counter.to_le_bytes());
     let flags = Flags::SME2 | Flags::STREAMING;
-    let machine = Machine { vb, flags, x: [0; 31], sp: 0, z: &z, p: &p };
+    let machine = Machine { vb, flags, z: &z, p: &p, ..Machine::default() };
     let count = elements(&machine, word).unwrap();
     let is_active = |e: &u64| element(&machine, word, *e).unwrap().unwrap().active;
     let active: Vec<u64> = (0..count).filter(is_active).collect();

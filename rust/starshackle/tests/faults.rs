@@ -27,7 +27,7 @@ fn fault(word: u32, first: u64, base: u64, length: u64) -> Option<u64> {
     }
     let features = Flags::SVE | Flags::SME2 | Flags::SVE2P1;
     let flags = features | Flags::STREAMING | Flags::FA64;
-    let machine = Machine { vb: 16, flags, x, sp: 0, z: &z, p: &p };
+    let machine = Machine { vb: 16, flags, x, z: &z, p: &p, ..Machine::default() };
     let (mut memory, mut patch) = (vec![OLD; length as usize], [OLD; 12 + 16 + 4]);
     let window = Window { base, memory: &mut memory };
     let outcome = store(&machine, window, word, &mut patch);

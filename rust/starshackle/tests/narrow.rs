@@ -15,7 +15,7 @@ fn stored(word: u32, offsets: [u64; 4], flags: Flags) -> (Result<Stored, Refusal
     z[VB..2 * VB].copy_from_slice(&bytes(DATA));
     z[2 * VB..3 * VB].copy_from_slice(&bytes(offsets));
     x[0] = 0x1000;
-    let machine = Machine { vb: VB, flags, x, sp: 0, z: &z, p: &p };
+    let machine = Machine { vb: VB, flags, x, z: &z, p: &p, ..Machine::default() };
     let (mut memory, mut patch) = (vec![0x77; 64], [0; LARGEST_STORE_PATCH]);
     let window = Window { base: 0xFE0, memory: &mut memory };
     let outcome = store(&machine, window, word, &mut patch);

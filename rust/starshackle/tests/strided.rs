@@ -21,7 +21,7 @@ fn stored(word: u32, counter: u16, room: usize) -> (Result<Stored, Refusal>, Vec
     p[VB..VB + 2].copy_from_slice(&counter.to_le_bytes());
     x[0] = 0x1000;
     let flags = Flags::SME2 | Flags::STREAMING;
-    let machine = Machine { vb: VB, flags, x, sp: 0, z: &z, p: &p };
+    let machine = Machine { vb: VB, flags, x, z: &z, p: &p, ..Machine::default() };
     let (mut memory, mut patch) = (vec![0x77; 1024], vec![0; room]);
     let window = Window { base: 0x1000, memory: &mut memory };
     let outcome = store(&machine, window, word, &mut patch);

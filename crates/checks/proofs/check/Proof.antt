@@ -33,15 +33,17 @@ returns c =
     refused-as (g .flags) (m (start l)) (g .base) (g .length) (g .word) Length (omega arith)
     (of-length (g .flags) (m (start l)) (g .base) (g .length) (g .word) (l .length-ok .result) (l .length-ok .ensures) (c .if1 .taken))
 
--- VB is one of the five
-of-five : (l : tie.After-length-ok) → not (l .length-ok .result) ≡ false → Vb (start l .args .vb)
-of-five l t = length-sound (start l .args .vb) (sym (l .length-ok .ensures) ∙ not-false (l .length-ok .result) t)
+-- VB passed the test
+allowed : (l : tie.After-length-ok) → not (l .length-ok .result) ≡ false → Vb (start l .args .flags .streaming) (start l .args .vb)
+allowed l t =
+    let g = start l .args in
+    length-sound (g .flags .early) (g .flags .streaming) (g .vb) (sym (l .length-ok .ensures) ∙ not-false (l .length-ok .result) t)
 
 mul-if2 : tie.Need-mul-if2
-mul-if2 c = omega (arith, of-five (c .before) (c .if1 .left) .high)
+mul-if2 c = omega (arith, allowed (c .before) (c .if1 .left) .high)
 
 mul-if2-2 : tie.Need-mul-if2-2
-mul-if2-2 c = omega (arith, of-five (c .before) (c .if1 .left) .high)
+mul-if2-2 c = omega (arith, allowed (c .before) (c .if1 .left) .high)
 
 returns-2 : tie.Need-returns-2
 returns-2 c =
@@ -87,7 +89,7 @@ check-store-requires c κs =
     let w = d .before .before in
     let g = start (at w) .args in
     let o = registers-sound w in
-    let v = of-five (at w) (w .before .before .if1 .left) in
+    let v = allowed (at w) (w .before .before .if1 .left) in
     let s = c .before .store .given in
     (known-accepted (g .word) (s .0 .0) (sym (d .decode .ensures) ∙ s .1), (o .low, o .high, o .sixteen, o .long-p, v .power))
 

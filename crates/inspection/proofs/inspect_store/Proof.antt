@@ -3,7 +3,7 @@ use mathlib.Core.Bool.{false}
 use mathlib.Core.Path.{_≡_, sym, ap, ap₂, _∙_, subst}
 use Prim.Native.Nat.{_*_}
 use lib.ListN.{length}
-use Rattle.encoding.specs.Encoding.{classFor, refused}
+use Rattle.encoding.specs.Encoding.{classFor, featureOf, refused}
 use Rattle.encoding.specs.declared.Store.{Store}
 use Rattle.encoding.specs.declared.Store.the-variants.{Scatter, Strided, Quadword}
 use Rattle.endian.proofs.LittleEndian.{bytes-at}
@@ -76,7 +76,7 @@ range-for-requires : tie.Need-range-for-requires
 range-for-requires c κs =
     let t = c .before .before in
     let a = strided t in
-    (ok a _ (t .store2 .given .1), (a .pre .1 .low, a .pre .1 .high, a .pre .1 .long-p, a .pre .0 .1))
+    (ok a _ (t .store2 .given .1), (a .pre .1 .low, a .pre .1 .high, a .pre .1 .long-p, a .pre .0 .1 (ap featureOf (t .store2 .given .1))))
 
 strided-access-requires : tie.Need-strided-access-requires
 strided-access-requires c κs = let t = c .before .before .before in ok (strided t) _ (t .store2 .given .1)

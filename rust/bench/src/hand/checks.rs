@@ -2,7 +2,7 @@
 
 use super::decode::{field, row_of, Row};
 use crate::verdicts::{FAULT, ILLEGAL, LENGTH, LONGEST, REGISTERS, STACK, UNDEFINED, WINDOW};
-use compare::storing::arm::{FA64, SME2, SP_CHECK, SP_CHECK_NONE_ACTIVE, STREAMING};
+use compare::storing::arm::{EARLY, FA64, SME2, SP_CHECK, SP_CHECK_NONE_ACTIVE, STREAMING};
 
 /// The registers, the window's address and length, and the word.
 #[derive(Clone, Copy)]
@@ -43,7 +43,8 @@ impl<'a> Lent<'a> {
     /// The word's row, or a verdict from 1 to 5.
     #[inline(always)]
     pub fn row(&self) -> Result<&'static Row, u64> {
-        if !matches!(self.vb, 16 | 32 | 64 | 128 | 256) {
+        let five = matches!(self.vb, 16 | 32 | 64 | 128 | 256);
+        if !five && !self.is_other_length() {
             return Err(LENGTH);
         }
         if self.z.len() != 32 * self.vb || self.p.len() != 2 * self.vb {
@@ -61,6 +62,13 @@ impl<'a> Lent<'a> {
             _ => !self.has(STREAMING) || self.has(FA64),
         };
         legal.then_some(row).ok_or(ILLEGAL)
+    }
+
+    /// Whether VB is a length of the early edition with streaming off.
+    #[cold]
+    fn is_other_length(&self) -> bool {
+        let multiple = self.vb % 16 == 0 && (16..=256).contains(&self.vb);
+        multiple && self.has(EARLY) && !self.has(STREAMING)
     }
 
     /// Whether the flag with this bit is on.

@@ -20,6 +20,11 @@ impl<'a> Machine<'a> {
         self.flags & flag.0 != 0
     }
 
+    /// Whether the early edition's lengths are allowed.
+    fn is_early(&self) -> bool {
+        self.flags >> 8 & 1 == 1
+    }
+
     pub fn z(&self, register: usize) -> &'a [u8] {
         &self.z[register * self.vb..][..self.vb]
     }
@@ -31,7 +36,11 @@ impl<'a> Machine<'a> {
 
     /// Verdicts 1 and 2.
     pub fn check(&self) -> Result<(), Refusal> {
-        if ![16, 32, 64, 128, 256].contains(&self.vb) {
+        let allowed = match self.is_early() && !self.has(Flags::STREAMING) {
+            true => self.vb % 16 == 0 && (16..=256).contains(&self.vb),
+            false => [16, 32, 64, 128, 256].contains(&self.vb),
+        };
+        if !allowed {
             return Err(Refusal::Length);
         }
         match self.z.len() == 32 * self.vb && self.p.len() == 2 * self.vb {

@@ -11,6 +11,9 @@ FILE is a text with lines NAME = VALUE. What isn't given is 0; # starts a commen
   vb = 16                      the vector length in bytes
   flags = sve streaming        those that are on: sve, sme2, sve2p1, streaming, fa64, sp-check,
                                sp-check-none-active
+  edition = early              the edition of Arm's SVE supplement, early or late; late if not given.
+                               vb is 16, 32, 64, 128 or 256; under the early edition, with streaming
+                               off, any multiple of 16 from 16 to 256
   x0 = 0x1000                  x0 to x30
   sp = 4096                    the stack pointer
   z2.s = 0 1 -1 0x5            z0 to z31 by elements of a width (b, h, s, d, q), lowest first

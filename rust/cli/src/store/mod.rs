@@ -11,7 +11,7 @@ use crate::register::Register;
 use crate::{fields, input, numbers};
 use lines::{is, lines, Line};
 use names::Subject;
-use starshackle::{elements, Flags, Machine, Refusal, Store, LARGEST_WINDOW};
+use starshackle::{elements, Edition, Flags, Machine, Refusal, Store, LARGEST_WINDOW};
 use std::collections::BTreeSet;
 
 /// What such a file is, for messages.
@@ -33,6 +33,7 @@ pub struct Described {
 pub struct Registers {
     vb: usize,
     flags: Flags,
+    edition: Edition,
     x: [u64; 31],
     sp: u64,
     z: Vec<u8>,
@@ -43,8 +44,8 @@ pub struct Registers {
 
 impl Registers {
     pub fn machine(&self) -> Machine<'_> {
-        let Registers { vb, flags, x, sp, ref z, ref p, .. } = *self;
-        Machine { vb, flags, x, sp, z, p }
+        let Registers { vb, flags, edition, x, sp, ref z, ref p, .. } = *self;
+        Machine { vb, flags, edition, x, sp, z, p }
     }
 
     /// Whether the file has a line about a register.
@@ -53,12 +54,12 @@ impl Registers {
     }
 
     /// Registers of 0. For a length that the model refuses there are none.
-    fn zero(vb: usize) -> Registers {
-        let empty = Machine { vb, ..Machine::default() };
+    fn zero(vb: usize, flags: Flags, edition: Edition) -> Registers {
+        let empty = Machine { vb, flags, edition, ..Machine::default() };
         let length = if elements(&empty, 0) == Err(Refusal::Length) { 0 } else { vb };
         let (z, p) = (vec![0; 32 * length], vec![0; 2 * length]);
         let given = BTreeSet::new();
-        Registers { vb, flags: Flags::default(), x: [0; 31], sp: 0, z, p, given }
+        Registers { vb, flags, edition, x: [0; 31], sp: 0, z, p, given }
     }
 
     /// Puts a line's value into a register.
@@ -146,12 +147,13 @@ fn word_number(text: &str) -> Option<u32> {
 fn registers(lines: &[Line]) -> Result<Registers, Failure> {
     let vb = number(lines, Subject::Vb)?.unwrap_or(0);
     // A length that has no room here is none of the model's either.
-    let mut registers = Registers::zero(usize::try_from(vb).unwrap_or(usize::MAX));
+    let vb = usize::try_from(vb).unwrap_or(usize::MAX);
+    let flags = find(lines, Subject::Flags).map_or(Ok(Flags::default()), flags)?;
+    let edition = find(lines, Subject::Edition).map_or(Ok(Edition::default()), edition)?;
+    let mut registers = Registers::zero(vb, flags, edition);
     for line in lines {
-        match line.name.subject {
-            Subject::Flags => registers.flags = flags(line)?,
-            Subject::Register(register) => registers.put(register, line)?,
-            _ => (),
+        if let Subject::Register(register) = line.name.subject {
+            registers.put(register, line)?;
         }
     }
     Ok(registers)
@@ -181,6 +183,23 @@ fn flags(line: &Line) -> Result<Flags, Failure> {
         flags |= flag.ok_or_else(|| line.unexpected(&is(name), &expected()))?.1;
     }
     Ok(flags)
+}
+
+/// The editions, each with a name.
+const EDITIONS: [Edition; 2] = [Edition::Early, Edition::Late];
+
+pub fn edition_name(edition: Edition) -> &'static str {
+    match edition {
+        Edition::Early => "early",
+        Edition::Late => "late",
+    }
+}
+
+fn edition(line: &Line) -> Result<Edition, Failure> {
+    let named = |text: &str| {
+        EDITIONS.into_iter().find(|edition| edition_name(*edition).eq_ignore_ascii_case(text))
+    };
+    line.read(named, "early or late")
 }
 
 /// The window's length and bytes.

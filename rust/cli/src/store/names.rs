@@ -19,6 +19,7 @@ pub enum Subject {
     Field(&'static Field),
     Vb,
     Flags,
+    Edition,
     Register(Register),
     /// The window's address.
     Window,
@@ -47,6 +48,7 @@ const PLAIN: &[(&str, Subject)] = &[
     ("word", Subject::Word),
     ("vb", Subject::Vb),
     ("flags", Subject::Flags),
+    ("edition", Subject::Edition),
     ("window", Subject::Window),
     ("length", Subject::Length),
     ("memory", Subject::Memory),
@@ -54,7 +56,7 @@ const PLAIN: &[(&str, Subject)] = &[
 
 impl Name {
     pub const EXPECTED: &'static str =
-        "word, a field as `starshackle encode` takes it, vb, flags, \
+        "word, a field as `starshackle encode` takes it, vb, flags, edition, \
         x0 to x30, sp, z0 to z31, p0 to p15, window, length or memory";
 
     pub fn read(text: &str) -> Option<Name> {

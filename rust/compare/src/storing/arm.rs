@@ -9,7 +9,7 @@ use crate::reference::Outcome;
 use crate::verdicts::{DONE, FAULT, ILLEGAL, LENGTH, REGISTERS, STACK, UNDEFINED, WINDOW};
 use crate::LONGEST;
 
-/// The vector lengths that there are, in bytes.
+/// The vector lengths, in bytes, of the late edition, and of both with streaming on.
 pub const LENGTHS: [usize; 5] = [16, 32, 64, 128, 256];
 
 // Flags by their bits.
@@ -20,6 +20,8 @@ pub const STREAMING: u32 = 3;
 pub const FA64: u32 = 4;
 pub const SP_CHECK: u32 = 5;
 pub const SP_CHECK_NONE_ACTIVE: u32 = 6;
+/// The early edition.
+pub const EARLY: u32 = 8;
 
 /// An element of a store.
 #[derive(Clone)]
@@ -51,13 +53,18 @@ impl Element {
     }
 }
 
-/// The elements of a store, or the verdict that keeps it from having any, whatever the flags.
+/// The elements of a store, or the verdict that keeps it from having any. Of the flags only edition
+/// and streaming count, in verdict 1.
 pub type Elements = Result<Vec<Element>, u64>;
 
 pub fn elements(input: &Input) -> Elements {
+    let class = class_of(input.word).map(|number| &CLASSES[number]);
+    let strided = class.map_or(false, |class| matches!(class.form, Form::Strided { .. }));
+    if strided && !LENGTHS.contains(&input.vb) {
+        return Err(LENGTH);
+    }
     registers_lent(input)?;
-    let class = class_of(input.word).ok_or(UNDEFINED)?;
-    Ok(elements_of(input, &CLASSES[class]))
+    Ok(elements_of(input, class.ok_or(UNDEFINED)?))
 }
 
 /// What is said of element `e` among these.
@@ -74,8 +81,21 @@ pub fn element(elements: &Elements, e: u64) -> Outcome<5> {
     Outcome { verdict: DONE, numbers }
 }
 
+/// Whether VB may be any multiple of 16 up to 256, and needn't be one of the five.
+pub fn any_multiple(flags: u64) -> bool {
+    flags >> EARLY & 1 == 1 && flags >> STREAMING & 1 == 0
+}
+
+/// The rule of the input's edition in its mode.
+pub fn length_allowed(input: &Input) -> bool {
+    match any_multiple(input.flags) {
+        true => (1..=16).any(|quadwords| quadwords * 16 == input.vb),
+        false => LENGTHS.contains(&input.vb),
+    }
+}
+
 fn registers_lent(input: &Input) -> Result<(), u64> {
-    if !LENGTHS.contains(&input.vb) {
+    if !length_allowed(input) {
         return Err(LENGTH);
     }
     match (input.z.len(), input.p.len()) == (32 * input.vb, 2 * input.vb) {

@@ -1,7 +1,7 @@
 //! Random stores: words, registers, windows and flags.
 
 use super::aim::{aim, Window};
-use super::arm::{FA64, LENGTHS, SME2, STREAMING, SVE, SVE2P1};
+use super::arm::{any_multiple, EARLY, FA64, LENGTHS, SME2, STREAMING, SVE, SVE2P1};
 use super::classes::{Class, Form, BASE, CLASSES, INDEX};
 use super::input::Input;
 use super::spoil::spoil;
@@ -21,11 +21,12 @@ pub fn input(number: u64) -> Input {
 
 /// A store of the class that none of the refusals 1 to 5 is due for.
 pub fn allowed(random: &mut Random, class: &Class) -> Input {
-    let vb = random.pick(&LENGTHS);
+    let flags = flags(random, class);
+    let vb = length(random, flags);
     let window = window(random, vb * 4);
     let mut input = Input {
         vb,
-        flags: flags(random, class),
+        flags,
         x: [(); 31].map(|()| random.number()),
         sp: random.number(),
         z: random.bytes(32 * vb),
@@ -36,6 +37,14 @@ pub fn allowed(random: &mut Random, class: &Class) -> Input {
     };
     aim(random, class, &window, &mut input);
     input
+}
+
+/// A vector length under these flags: often one of the five where there are others too.
+fn length(random: &mut Random, flags: u64) -> usize {
+    match any_multiple(flags) && !random.one_in(3) {
+        true => 16 * (1 + random.below(16)),
+        false => random.pick(&LENGTHS),
+    }
 }
 
 /// A word of the class; registers are often number 31.
@@ -64,7 +73,7 @@ pub fn other_word(random: &mut Random, class: &Class, word: u32) -> u32 {
 fn flags(random: &mut Random, class: &Class) -> u64 {
     let mut flags = random.number();
     if random.one_in(2) {
-        flags &= 0x7F;
+        flags &= 0x7F | 1 << EARLY;
     }
     flags |= 1 << feature(class);
     match class.form {

@@ -1,12 +1,12 @@
 //! What the random stores have to hit.
 
-use super::arm::{self, mask_up_to, maxbit, Element, SP_CHECK, STREAMING};
+use super::arm::{self, mask_up_to, maxbit, Element, EARLY, LENGTHS, SP_CHECK, STREAMING};
 use super::classes::{class_of, Form, BASE, CLASSES, R31, XS};
 use super::counters::{NARROW, STRIDED};
 use super::effect::Effect;
 use super::joints::joints;
 use super::subject::Subject;
-use crate::verdicts::{DONE, FAULT, ILLEGAL, STACK, UNDEFINED, WINDOW};
+use crate::verdicts::{self, DONE, FAULT, ILLEGAL, STACK, UNDEFINED, WINDOW};
 use crate::LONGEST;
 
 /// Something to count by: each of the numbers has to be hit.
@@ -48,6 +48,10 @@ const SHORT: &[u64] = &[25, 26, 27, 28, 29, 30, 31, 32];
 const WIDER: &[u64] = &[8, 9, 10, 11, 29, 30, 31, 32, 33, 34, 35, 36];
 const VERDICT: &[u64] = &[0, 1, 2, 3, 4, 5, 6, 7];
 const VB: &[u64] = &[16, 32, 64, 128, 256];
+/// The lengths that there are only under the early edition with streaming off.
+const OTHER_VB: &[u64] = &[48, 80, 96, 112, 144, 160, 176, 192, 208, 224, 240];
+/// Lengths that there never are.
+const NO_VB: &[u64] = &[0, 8, 15, 17, 24, 40, 255, 257, 264, 272, 288, 512, 65_552];
 const SIZE: &[u64] = &[0, 8, 16, 32, 64];
 const BITS: &[u64] = &[0, 1, 2, 3];
 const RUNS: &[u64] =
@@ -72,6 +76,30 @@ pub const GROUPS: &[Group] = &[
     group("VB 64, class, done", CLASS, |s| s.class_where(|s, _| s.input.vb == 64)),
     group("VB 128, class, done", CLASS, |s| s.class_where(|s, _| s.input.vb == 128)),
     group("VB 256, class, done", CLASS, |s| s.class_where(|s, _| s.input.vb == 256)),
+    group("VB of the early edition alone, done", OTHER_VB, |s| s.done(|_| s.input.vb as u64)),
+    group("VB of the early edition alone, class, done", SCATTER, |s| {
+        s.class_where(|s, _| !LENGTHS.contains(&s.input.vb))
+    }),
+    group("VB 48, class, done", SCATTER, |s| s.class_where(|s, _| s.input.vb == 48)),
+    group("VB 240, class, done", SCATTER, |s| s.class_where(|s, _| s.input.vb == 240)),
+    group("such a VB, class, whole and contiguous", SCATTER, |s| {
+        s.class_where(|s, _| !LENGTHS.contains(&s.input.vb) && s.is_whole())
+    }),
+    group("VB 16 to 256 of the five, early edition, done", VB, |s| {
+        s.done(|_| s.input.vb as u64).filter(|_| s.is_early())
+    }),
+    group("VB refused, late edition", OTHER_VB, |s| s.length_refused(0, 0)),
+    group("VB refused, late edition, streaming", OTHER_VB, |s| s.length_refused(0, 1)),
+    group("VB refused, early edition, streaming", OTHER_VB, |s| s.length_refused(1, 1)),
+    group("VB refused, early edition", NO_VB, |s| s.length_refused(1, 0)),
+    group("strided at another VB than the five, verdict", &[1, 2, 3, 4, 5], |s| {
+        s.strided_elsewhere().map(|()| s.verdict())
+    }),
+    group("class, element asked at another VB, registers there", STRIDED, |s| {
+        let there = s.input.z.len() == 32 * s.input.vb && s.input.p.len() == 2 * s.input.vb;
+        s.strided_elsewhere().filter(|()| there && arm::length_allowed(&s.input))?;
+        s.class()
+    }),
     group("VB 16, class, UXTW of 2^31 and more, done", EXTENDED, |s| s.extended_at(16, 0)),
     group("VB 32, class, UXTW of 2^31 and more, done", EXTENDED, |s| s.extended_at(32, 0)),
     group("VB 64, class, UXTW of 2^31 and more, done", EXTENDED, |s| s.extended_at(64, 0)),
@@ -230,6 +258,23 @@ fn once(hit: bool) -> Option<u64> {
 impl Subject {
     fn verdict(&self) -> u64 {
         self.right.as_ref().map_or_else(|refusal| refusal.verdict, |_| DONE)
+    }
+
+    pub fn is_early(&self) -> bool {
+        self.input.flags >> EARLY & 1 == 1
+    }
+
+    /// The length, where it is refused under this edition with streaming on or off.
+    fn length_refused(&self, early: u64, streaming: u64) -> Option<u64> {
+        let bits = [EARLY, STREAMING].map(|bit| self.input.flags >> bit & 1);
+        let met = self.verdict() == verdicts::LENGTH && bits == [early, streaming];
+        met.then_some(self.input.vb as u64)
+    }
+
+    /// A strided store at a multiple of 16 that is none of the five.
+    fn strided_elsewhere(&self) -> Option<()> {
+        let other = OTHER_VB.contains(&(self.input.vb as u64));
+        (other && self.is_strided()).then_some(())
     }
 
     /// How many bytes the window has.

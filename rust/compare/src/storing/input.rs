@@ -1,14 +1,16 @@
 //! What a store is given.
 
+use super::arm::EARLY;
 use crate::reference::Reference;
 use crate::report::name;
-use starshackle::{Flags, Machine};
+use starshackle::{Edition, Flags, Machine};
 use std::fmt::Write;
 
 /// A machine, a window and a word.
 #[derive(Clone)]
 pub struct Input {
     pub vb: usize,
+    /// As the library takes them, the edition among them.
     pub flags: u64,
     pub x: [u64; 31],
     pub sp: u64,
@@ -30,7 +32,8 @@ impl Input {
     /// The machine as the library takes it.
     pub fn machine(&self) -> Machine<'_> {
         let Input { vb, flags, x, sp, ref z, ref p, .. } = *self;
-        Machine { vb, flags: Flags(flags), x, sp, z, p }
+        let edition = if flags >> EARLY & 1 == 1 { Edition::Early } else { Edition::Late };
+        Machine { vb, flags: Flags(flags), edition, x, sp, z, p }
     }
 
     /// The address behind the window's last byte.

@@ -8,6 +8,8 @@ mod bits;
 mod cases;
 pub mod classes;
 pub mod counters;
+#[cfg(test)]
+mod editions;
 mod effect;
 mod faulting;
 mod faults;
@@ -290,7 +292,7 @@ impl<'a> Comparison<'a> {
                 format!("same memory {same_memory}, same patch {same_patch}: {one}\nand {other}")
             });
         }
-        self.tally.pair(one, same_patch);
+        self.tally.pair(one, &other, same_patch);
     }
 }
 

@@ -1,7 +1,7 @@
 //! Stores whose elements lie as is wanted, and permuted forms of stores.
 
 use super::aim::{point, predicate};
-use super::arm::{Element, LENGTHS};
+use super::arm::{length_allowed, Element, EARLY, LENGTHS};
 use super::classes::{class_of, Class, Form, BASE, CLASSES, INDEX, PREDICATE, ZT};
 use super::generate;
 use super::input::Input;
@@ -21,8 +21,8 @@ pub fn input(number: u64) -> Input {
 
 /// The class of a store whose registers are there and that isn't strided.
 fn scattered(input: &Input) -> Option<&'static Class> {
-    let there = LENGTHS.contains(&input.vb)
-        && (input.z.len(), input.p.len()) == (32 * input.vb, 2 * input.vb);
+    let there =
+        length_allowed(input) && (input.z.len(), input.p.len()) == (32 * input.vb, 2 * input.vb);
     let class = &CLASSES[class_of(input.word).filter(|_| there)?];
     (!matches!(class.form, Form::Strided { .. })).then_some(class)
 }
@@ -131,9 +131,13 @@ fn shuffle<T>(random: &mut Random, values: &mut [T]) {
     }
 }
 
-/// The store with its elements permuted; of a strided one, two elements' bytes exchanged.
+/// The store with its elements permuted; of a strided one, two elements' bytes exchanged. Where both
+/// editions have the length, it is often under the other one.
 pub fn permuted(random: &mut Random, input: &Input, elements: &[Element]) -> Input {
     let mut other = input.clone();
+    if LENGTHS.contains(&input.vb) && random.one_in(2) {
+        other.flags ^= 1 << EARLY;
+    }
     match scattered(input) {
         Some(class) => permute(random, class, input, &mut other),
         None => {

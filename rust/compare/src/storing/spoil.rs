@@ -1,6 +1,6 @@
 //! Inputs that are to be refused, for one cause or several.
 
-use super::arm::{FA64, LENGTHS, SP_CHECK, STREAMING};
+use super::arm::{EARLY, FA64, LENGTHS, SP_CHECK, STREAMING};
 use super::classes::{Class, Form, BASE};
 use super::generate::{bad_window, feature, other_word};
 use super::input::Input;
@@ -9,14 +9,15 @@ use crate::random::Random;
 type Cause = fn(&mut Random, &Class, &mut Input);
 
 /// In the order in which they are checked.
-const CAUSES: [Cause; 8] =
-    [length, z_length, p_length, window, no_class, feature_off, illegal, stack];
+const CAUSES: [Cause; 9] =
+    [length, edition, z_length, p_length, window, no_class, feature_off, illegal, stack];
 
 /// Vector lengths that there aren't, some of which a cut or a narrower test would take.
-const NO_LENGTHS: [usize; 20] =
-    [0, 1, 2, 8, 15, 17, 24, 48, 80, 96, 112, 144, 192, 240, 255, 257, 272, 512, 65_552, 4096];
+const NO_LENGTHS: [usize; 16] =
+    [0, 1, 2, 8, 15, 17, 24, 40, 255, 257, 264, 272, 288, 512, 4096, 65_552];
 
-/// Gives the input a cause of a refusal, and often others that are checked later.
+/// Gives the input a cause of a refusal, and often others that are checked later. Some lengths are
+/// one under another edition or in another mode only.
 pub fn spoil(random: &mut Random, class: &Class, input: &mut Input) {
     let first = random.below(CAUSES.len());
     for (number, cause) in CAUSES.iter().enumerate() {
@@ -31,11 +32,26 @@ fn length(random: &mut Random, _: &Class, input: &mut Input) {
         0 => random.pick(&LENGTHS) + (1 << 32),
         1 => usize::MAX,
         2 => random.number() as usize | 1,
+        3 => 16 * (1 + random.below(16)),
         _ => random.pick(&NO_LENGTHS),
     };
+    if random.one_in(2) {
+        input.flags = input.flags & !(1 << STREAMING) | 1 << EARLY;
+    }
     if input.vb <= 512 && random.one_in(2) {
         input.z = random.bytes(32 * input.vb);
         input.p = random.bytes(2 * input.vb);
+    }
+}
+
+/// The other edition, or streaming mode where it was off, at a length that only the early one has.
+fn edition(random: &mut Random, _: &Class, input: &mut Input) {
+    let vb = 16 * (1 + random.below(16));
+    (input.vb, input.z, input.p) = (vb, random.bytes(32 * vb), random.bytes(2 * vb));
+    match random.below(3) {
+        0 => input.flags &= !(1 << EARLY),
+        1 => input.flags |= 1 << EARLY | 1 << STREAMING,
+        _ => input.flags = input.flags & !(1 << STREAMING) | 1 << EARLY,
     }
 }
 

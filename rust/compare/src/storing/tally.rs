@@ -18,12 +18,14 @@ const ROOMS: usize = CALLS + 1;
 const APPLIED: usize = ROOMS + 1;
 const PAIRS: usize = APPLIED + 1;
 const OVERLAPPING: usize = PAIRS + 1;
-const ROWS: [(&str, &[u64]); 5] = [
+const EDITIONS: usize = OVERLAPPING + 1;
+const ROWS: [(&str, &[u64]); 6] = [
     ("verdict of a call", &[0, 1, 2, 3, 4, 5, 6, 7, NO_ROOM]),
     ("buffer short by one, exact, longer", &[1, 2, 3]),
     ("patch of one filling applied to another", &[1]),
     ("permuted form has another patch, the same", &[0, 1]),
     ("the same where elements overlap", &[0, 1]),
+    ("the same where editions differ", &[0, 1]),
 ];
 
 pub struct Tally {
@@ -79,8 +81,11 @@ impl Tally {
     }
 
     /// Counts a store compared with its permuted form.
-    pub fn pair(&mut self, subject: &Subject, same: bool) {
+    pub fn pair(&mut self, subject: &Subject, permuted: &Subject, same: bool) {
         self.counts.hit(PAIRS, Some(same.into()));
+        if subject.is_early() != permuted.is_early() {
+            self.counts.hit(EDITIONS, Some(same.into()));
+        }
         if overlaps(subject) {
             self.counts.hit(OVERLAPPING, Some(same.into()));
         }

@@ -1,7 +1,7 @@
 -- `access_for`: by the store's case. Assumes nothing.
 use mathlib.Core.Bool.{false}
 use mathlib.Core.Path.{_≡_, sym, ap, ap₂, _∙_}
-use Rattle.encoding.specs.Encoding.{classFor, refused}
+use Rattle.encoding.specs.Encoding.{classFor, featureOf, refused}
 use Rattle.encoding.specs.declared.Store.the-variants as S
 use Rattle.elements.specs.Machine.{machine}
 use Rattle.checks.specs.Checking.{accessFor}
@@ -29,7 +29,10 @@ start-of-requires : tie.Need-start-of-requires
 start-of-requires c κs = let t = c .before in (accepted t, t .before .before .before .pre .1 .1)
 
 range-for-requires : tie.Need-range-for-requires
-range-for-requires c κs = let t = c .before .before in (accepted t, t .before .before .before .pre .1)
+range-for-requires c κs =
+    let t = c .before .before in
+    let p = t .before .before .before .pre .1 in
+    (accepted t, (p .0, p .1, p .2, p .3 (ap featureOf (t .store2 .given .1))))
 
 strided-access-requires : tie.Need-strided-access-requires
 strided-access-requires c κs = accepted (c .before .before .before)

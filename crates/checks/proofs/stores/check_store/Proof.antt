@@ -5,7 +5,7 @@ use Prim.Native.Nat.{ℕ}
 use Rattle.elements.specs.Machine.{Machine, machine}
 use Rattle.checks.specs.Checking.{AccessSound, elementsIn}
 use Rattle.checks.specs.declared.Checked.{Checked}
-use Rattle.checks.proofs.Checking.{access-to, access-sound, for-off, for-illegal, for-stack, for-access}
+use Rattle.checks.proofs.Checking.{access-to, access-sound, legal-streams, for-off, for-illegal, for-stack, for-access}
 use borrow.Author.Needs.{needs}
 use Rattle.checks.proofs.stores.check_store.Statement.{statement}
 use Rattle.checks.proofs.stores.check_store.Tie as tie
@@ -42,7 +42,13 @@ returns-2 c =
     (i .ensures) (c .if2 .taken)
 
 access-for-requires : tie.Need-access-for-requires
-access-for-requires c κs = search needs
+access-for-requires c κs =
+    let i = c .before .is-illegal in
+    let f = c .before .before .before .before in
+    let a = f .before .before in
+    let p = a .pre .1 in
+    let streams = legal-streams (a .args .flags) _ (i .result) (i .ensures) (c .if2 .left) in
+    (a .pre .0, (p .0, p .1, p .3, λ q. p .4 (streams (f .feature-for .ensures ∙ q))))
 
 is-on-stack-requires : tie.Need-is-on-stack-requires
 is-on-stack-requires c κs = search needs

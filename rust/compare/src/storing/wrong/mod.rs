@@ -3,6 +3,7 @@
 mod answers;
 mod buffers;
 mod counters;
+mod editions;
 mod elements;
 mod faults;
 mod memory;
@@ -29,9 +30,9 @@ struct Lent<'a> {
 
 /// The independent model's input.
 fn input(machine: &Machine, window: &Window, word: u32) -> Input {
-    let Machine { vb, flags, x, sp, z, p } = *machine;
+    let Machine { vb, x, sp, z, p, .. } = *machine;
     let (z, p, memory) = (z.to_vec(), p.to_vec(), window.memory.to_vec());
-    Input { vb, flags: flags.0, x, sp, z, p, base: window.base, memory, word }
+    Input { vb, flags: machine.flag_bits(), x, sp, z, p, base: window.base, memory, word }
 }
 
 /// An implementation that gets the store as the independent model judges it, and what it may write.

@@ -1,0 +1,100 @@
+//! The rule for the vector length by which a store was refused with 1.
+//!
+//! The model tells that VB isn't allowed. Which rule said so is read here from edition and flags; it
+//! explains the answer and is no part of it.
+
+use crate::json::Json;
+use crate::store::edition_name;
+use starshackle::{Edition, Flags, LengthRule, Machine, Refusal};
+
+/// A rule and what it was applied to.
+pub struct Length {
+    vb: u64,
+    edition: Edition,
+    streaming: bool,
+    rule: LengthRule,
+}
+
+impl Length {
+    /// The rule that refused a store, if one did.
+    pub fn of<T>(machine: &Machine, outcome: &Result<T, Refusal>) -> Option<Length> {
+        let Machine { vb, flags, edition, .. } = *machine;
+        let (streaming, rule) = (flags.contains(Flags::STREAMING), edition.rule(flags));
+        let refused = matches!(outcome, Err(Refusal::Length));
+        refused.then_some(Length { vb: vb as u64, edition, streaming, rule })
+    }
+
+    /// The line about it.
+    pub fn text(&self) -> String {
+        let Length { vb, edition, rule, .. } = self;
+        let cause = match (edition, rule) {
+            (Edition::Early, LengthRule::OneOfFive) => {
+                "with streaming on, under both editions,".to_string()
+            }
+            _ => format!("under the {} edition", edition_name(*edition)),
+        };
+        format!("  note (not proved): VB is {vb}; {cause} it may be {rule}\n")
+    }
+
+    pub fn json(&self) -> Json {
+        Json::Object(vec![
+            ("vb", self.vb.into()),
+            ("edition", edition_name(self.edition).into()),
+            ("streaming", self.streaming.into()),
+            ("allowed", self.rule.to_string().into()),
+            ("proved", false.into()),
+        ])
+    }
+}
+
+#[cfg(test)]
+mod tests {
+    use super::*;
+    use starshackle::elements;
+
+    /// A word that is no store: only its length is judged.
+    fn refused(machine: &Machine) -> Option<Length> {
+        Length::of(machine, &elements(machine, 0))
+    }
+
+    /// The rule that is named is the one by which the model refuses, at every length.
+    #[test]
+    fn rules_are_the_models() {
+        for flags in 0..128 {
+            for edition in [Edition::Early, Edition::Late] {
+                let flags = Flags(flags);
+                for vb in 0..600 {
+                    let machine = Machine { vb, flags, edition, ..Machine::default() };
+                    let allowed = match edition.rule(flags) {
+                        LengthRule::AnyMultiple => (1..=16).any(|number| 16 * number == vb),
+                        LengthRule::OneOfFive => [16, 32, 64, 128, 256].contains(&vb),
+                    };
+                    assert_eq!(refused(&machine).is_none(), allowed, "{machine:?}");
+                }
+            }
+        }
+    }
+
+    #[test]
+    fn texts() {
+        let text = |vb, flags, edition| {
+            refused(&Machine { vb, flags, edition, ..Machine::default() }).unwrap().text()
+        };
+        let five = "it may be 16, 32, 64, 128 or 256\n";
+        let note = "  note (not proved): VB is";
+        assert_eq!(
+            text(48, Flags::SVE, Edition::Late),
+            format!("{note} 48; under the late edition {five}")
+        );
+        assert_eq!(
+            text(48, Flags::STREAMING, Edition::Early),
+            format!("{note} 48; with streaming on, under both editions, {five}")
+        );
+        assert_eq!(
+            text(40, Flags::SVE, Edition::Early),
+            format!(
+                "{note} 40; under the early edition it may be any multiple of 16 from 16 to 256\n"
+            )
+        );
+    }
+}
