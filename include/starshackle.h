@@ -28,7 +28,7 @@
 extern "C" {
 #endif
 
-/* Verdicts, in the order in which they are checked: the lowest that is due is answered. */
+/* Verdicts, in the order in which they are checked, in which 12 stands before 8: the first that is due is answered. */
 enum starshackle_verdict {
     STARSHACKLE_DONE = 0,
     STARSHACKLE_LENGTH = 1,    /* vb is none of 16, 32, 64, 128, 256; with EARLY on and STREAMING off: no multiple of 16 from 16 to 256 */
@@ -39,6 +39,7 @@ enum starshackle_verdict {
     STARSHACKLE_ILLEGAL = 5,   /* 1..7 and 12..24: streaming on and FA64 off; 8..11 and 25..36: streaming off */
     STARSHACKLE_STACK = 6,     /* SP is the base, is checked, and isn't a multiple of 16 */
     STARSHACKLE_FAULT = 7,     /* an active element has a byte outside the window */
+    STARSHACKLE_OVERLAP = 12,  /* two active elements share a byte, and STRICT is on */
     STARSHACKLE_NO_ROOM = 8,   /* the patch buffer is shorter than the patch */
     STARSHACKLE_BAD_PATCH = 9, /* the bytes are no patch */
     STARSHACKLE_OUTSIDE = 10,  /* a run isn't wholly in the window */
@@ -54,6 +55,7 @@ enum starshackle_flag {
     STARSHACKLE_FLAG_FA64 = 16,                 /* classes 1..7 and 12..24 are legal in streaming mode */
     STARSHACKLE_FLAG_SP_CHECK = 32,             /* SP as a base has to be a multiple of 16 where an element is active, */
     STARSHACKLE_FLAG_SP_CHECK_NONE_ACTIVE = 64, /* and, with this flag too, where none is */
+    STARSHACKLE_FLAG_STRICT = 128,              /* a store of which two active elements share a byte is refused */
     STARSHACKLE_FLAG_EARLY = 256                /* the early edition of Arm's SVE supplement, else the late one: which lengths there are */
 };
 
@@ -191,6 +193,9 @@ uint64_t starshackle_encode(const uint64_t fields[8], uint64_t answer[5]);
  *          its bytes, in its own byte order, that isn't in the window; else 0. That is the element's first address, or, where the
  *          byte there is in the window, the address behind the window, which is 0 where the window ends at 2^64.
  *          Elements are numbered from 0, a strided store's through all its registers.
+ * OVERLAP  answer[0] the lowest active element that shares a byte with a lower active element, answer[1] its first address; else 0.
+ *          Only with STARSHACKLE_FLAG_STRICT, which changes no other answer. A store that is done with it writes each byte once, so
+ *          that answer[3] is its patch's payload bytes. A strided store is never refused so.
  * NO_ROOM  zeros: the patch has more than patch_len bytes.
  * LENGTH, REGISTERS, WINDOW, UNDEFINED, ILLEGAL, STACK  zeros.
  *

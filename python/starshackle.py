@@ -71,7 +71,7 @@ LARGEST_WINDOW = 65536
 
 
 class Verdict(IntEnum):
-    """What a call answers, in the order in which it is checked; all but DONE are refusals."""
+    """What a call answers, in the order in which it is checked, in which 12 stands before 8; all but DONE are refusals."""
 
     DONE = 0
     LENGTH = 1  # vb is none of LENGTHS; under the early edition with streaming off: none of EARLY_LENGTHS
@@ -81,6 +81,7 @@ class Verdict(IntEnum):
     ILLEGAL = 5  # classes 1 to 7 and 12 to 24: streaming on and FA64 off; 8 to 11 and 25 to 36: streaming off
     STACK = 6  # SP is the base, is checked, and isn't a multiple of 16
     FAULT = 7  # an active element has a byte outside the window
+    OVERLAP = 12  # two active elements share a byte, and STRICT is on
     NO_ROOM = 8  # the patch buffer is shorter than the patch
     BAD_PATCH = 9  # the bytes are no patch
     OUTSIDE = 10  # a run isn't wholly in the window
@@ -97,6 +98,7 @@ class Flags(IntFlag):
     FA64 = 16
     SP_CHECK = 32
     SP_CHECK_NONE_ACTIVE = 64
+    STRICT = 128  # a store of which two active elements share a byte is refused
 
 
 class Edition(IntEnum):
@@ -221,7 +223,8 @@ class Stored(_Answer):
     DONE: elements that were active, bytes that they moved, the patch's length, and steps: how many active elements don't start where
     the active one before them, the next lower in number, ends; the first has none before it and counts. FAULT: the lowest active
     element with a byte outside the window, and the address, modulo 2**64, of the first of its bytes, in its own byte order, that
-    isn't in the window: the element's first address, or else the one behind the window. What a verdict doesn't have is 0.
+    isn't in the window: the element's first address, or else the one behind the window. OVERLAP: the lowest active element that
+    shares a byte with a lower active element, and its first address. What a verdict doesn't have is 0.
     """
 
     element: int
@@ -424,6 +427,8 @@ def store(machine, base, memory, word, patch):
 
     memory and patch are two bytearrays, changed in place when the verdict is DONE, and else not at all. All active elements go to
     memory, lowest first. The patch is the first bytes of patch, as many as the answer's length; bytes behind it are as they came.
+
+    With `Flags.STRICT` a store of which two active elements share a byte is refused with OVERLAP; the flag changes no other answer.
 
     Answer and patch don't depend on what memory holds, and applying the patch there leaves what the store leaves. Who wants only
     the patch lends a scratch window, with anything in it; who wants only the memory a scratch `bytearray(LARGEST_STORE_PATCH)`.

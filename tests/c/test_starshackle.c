@@ -873,6 +873,8 @@ static void refusals(void)
     ANSWERS(element(SCATTER, 0), STARSHACKLE_DONE, 1, 0x1000, 16, 1, 4); /* looks at no such flag */
     m.flags = ~UINT64_C(0) ^ STARSHACKLE_FLAG_SME2;
     IS_REFUSED(0xA1206000, STARSHACKLE_UNDEFINED, 0, 0);
+    IS_REFUSED(SCATTER, STARSHACKLE_OVERLAP, 2, 0x1001); /* strict is among them */
+    m.flags ^= STARSHACKLE_FLAG_STRICT;
     IS_DONE(SCATTER, 4, 4, sizeof EXAMPLE, 3);
     m.flags = ~UINT64_C(0) ^ STARSHACKLE_FLAG_SVE2P1;
     IS_REFUSED(0xE4202000, STARSHACKLE_UNDEFINED, 0, 0);
@@ -911,6 +913,62 @@ static void refusals(void)
     IS_REFUSED(SCATTER, STARSHACKLE_FAULT, 0, 0x1000);
     STORES(store(SCATTER, 0), STARSHACKLE_FAULT, 0, 0x1000, 0, 0, 0, 0); /* before what is said of the room */
     CHECK(untouched());
+}
+
+/* ---- stores that hit a byte twice */
+
+/* Elements at these two offsets, the second with this number, and with all others off, in a store that is strict. */
+static void pair(size_t esize, size_t e, uint64_t first, uint64_t second)
+{
+    machine(256, STARSHACKLE_FLAG_SVE | STARSHACKLE_FLAG_SVE2P1 | STARSHACKLE_FLAG_STRICT, 0x1000, 64);
+    m.x[0] = 0x1000;
+    element_at(esize, 0, first);
+    element_at(esize, e, second);
+    set_active(esize, 0, 1);
+    m.p[e * esize / 8] |= (uint8_t)(1 << e * esize % 8);
+}
+
+/* Element e at this distance from element 0, below it and above it. */
+static void distance(int line, uint32_t word, size_t esize, size_t e, uint64_t size, uint64_t apart)
+{
+    const uint64_t room = STARSHACKLE_LARGEST_STORE_PATCH;
+    int i;
+    for (i = 0; i < 2; i++) {
+        pair(esize, e, i ? 16 : 16 + apart, i ? 16 + apart : 16);
+        if (apart < size) {
+            refused(line, word, STARSHACKLE_OVERLAP, e, 0x1010 + (i ? apart : 0));
+            expect_answer(line, "storing", store(word, 0), STARSHACKLE_OVERLAP, e, 0x1010 + (i ? apart : 0), 0, 0, 0, 0);
+            check(line, untouched(), "memory and patch are as they came");
+            m.flags ^= STARSHACKLE_FLAG_STRICT;
+            done(line, word, 2, 2 * size, 12 + size + apart + 4, 2);
+        } else {
+            expect_answer(line, "storing", store(word, room), STARSHACKLE_DONE, 0, 0, 2, 2 * size,
+                          (apart > size ? 24 : 12) + 2 * size + 4, apart > size || !i ? 2 : 1);
+            fill();
+        }
+    }
+}
+
+static void overlaps(void)
+{
+    static const uint32_t words[] = {0xE402A001, 0xE4428001, 0xE482A001, 0xE4C28001, 0xE502A001, 0xE5428001, 0xE582A001, 0xE4202041};
+    static const size_t esizes[] = {8, 4, 8, 4, 8, 4, 8, 16};
+    static const uint64_t sizes[] = {1, 1, 2, 2, 4, 4, 8, 16};
+    size_t i, e;
+    uint64_t apart;
+    for (i = 0; i < 8; i++)
+        for (e = 1; e < 256 / esizes[i]; e += e < 3 ? 1 : 4)
+            for (apart = 0; apart < sizes[i] + 2; apart++)
+                distance(__LINE__, words[i], esizes[i], e, sizes[i], apart);
+
+    pair(8, 1, 0, 60); /* a fault comes first */
+    element_at(8, 2, 4);
+    set_active(8, 2, 1);
+    IS_REFUSED(0xE582A001, STARSHACKLE_FAULT, 1, 0x1040);
+    element_at(8, 1, 56);
+    IS_REFUSED(0xE582A001, STARSHACKLE_OVERLAP, 2, 0x1004);
+    set_active(8, 2, 0);
+    IS_DONE(0xE582A001, 2, 16, 44, 2);
 }
 
 /* ---- the byte that a fault names */
@@ -1231,6 +1289,7 @@ int main(void)
     largest();
     steps();
     refusals();
+    overlaps();
     faults();
     patches();
     nulls();

@@ -462,6 +462,44 @@ class Refusals(unittest.TestCase):
                         outside = [address for address in addresses if not base <= address < base + length]
                         self.fault(word, first, base, length, outside[0] if outside else None)
 
+    def strict(self, word, step, size, addresses, named, **lent):
+        """Elements at these addresses are refused with 12 in strict mode, which names this one; None where they are done."""
+        machine = Machine(vb=64, flags=Flags.SVE | Flags.SVE2P1 | Flags.STRICT)
+        machine.x[0] = 0x1000
+        for e, address in enumerate(addresses):
+            if address is not None:
+                struct.pack_into("<I", machine.z, 2 * 64 + e * step, address - 0x1000)
+                machine.p[e * step // 8] |= 1 << e * step % 8
+        active = [address for address in addresses if address is not None]
+        self.assertEqual(element(machine, word, len(addresses) - 1).bytes, size)
+        if named is None:
+            written = {address + k for address in active for k in range(size)}
+            stored = store(machine, 0x1000, bytearray(64), word, bytearray(LARGEST_STORE_PATCH))
+            self.assertEqual((stored.verdict, stored.elements, stored.bytes), (Verdict.DONE, len(active), len(written)))
+        else:
+            self.check(machine, word, Verdict.OVERLAP, (named, addresses[named]), length=64, **lent)
+            self.check(machine, word, Verdict.FAULT, (0, addresses[0]), base=addresses[0] + 1, length=64, **lent)
+            machine.flags ^= Flags.STRICT
+            self.assertTrue(store(machine, 0x1000, bytearray(64), word, bytearray(LARGEST_STORE_PATCH)).done)
+
+    def test_overlap(self):
+        """Document 02 (viii): words of each width, with an element's bytes in its register and in memory."""
+        words = [(0xE402A001, 8, 1), (0xE4428001, 4, 1), (0xE482A001, 8, 2), (0xE4C28001, 4, 2), (0xE502A001, 8, 4),
+                 (0xE5428001, 4, 4), (0xE582A001, 8, 8), (0xE4202041, 16, 16)]
+        for word, step, size in words:
+            self.strict(word, step, size, [0x1010, 0x1010 + size], None)  # touching
+            self.strict(word, step, size, [0x1010 + size, 0x1010], None)
+            self.strict(word, step, size, [0x1010, None, None, 0x1010][:64 // step], 3)  # far apart in number
+            self.strict(word, step, size, [0x1010, None, 0x1010, 0x1010][:64 // step], 2)  # the lowest
+            for k in range(size):  # by one byte too
+                for room in [0, LARGEST_STORE_PATCH]:
+                    self.strict(word, step, size, [0x1010, 0x1010 + k], 1, room=room)
+                    self.strict(word, step, size, [0x1010 + k, 0x1010], 1, room=room)
+        self.check(scatter(), SCATTER, Verdict.NO_ROOM, room=30)
+        strict = scatter()
+        strict.flags |= Flags.STRICT
+        self.check(strict, SCATTER, Verdict.OVERLAP, (2, 0x1001), room=30)
+
     def test_no_room(self):
         for room in [0, 1, 30]:
             self.check(scatter(), SCATTER, Verdict.NO_ROOM, room=room)
@@ -662,7 +700,7 @@ class Random(unittest.TestCase):
         """A machine whose stores are often near the window, in each class."""
         chosen = self.random
         vb = chosen.choice(LENGTHS)
-        machine = Machine(vb=vb, flags=chosen.choice([7, 15, 31, 39, 63, 103, 127]))
+        machine = Machine(vb=vb, flags=chosen.choice([7, 15, 31, 39, 63, 103, 127]) | chosen.choice([0, Flags.STRICT]))
         machine.z = bytearray(chosen.randbytes(32 * vb))
         near = b"".join(struct.pack("<Q", (base + chosen.randrange(length + 1)) % 2**64) for _ in range(vb))
         small = b"".join(struct.pack("<I", chosen.randrange(length // 8 + 1)) for _ in range(vb))
@@ -704,7 +742,7 @@ class Random(unittest.TestCase):
         self.assertEqual(applied, memory)
 
     def test_stores(self):
-        counts = dict.fromkeys(list(Verdict)[:9], 0)
+        counts = dict.fromkeys(list(Verdict)[:10], 0)
         classes = dict.fromkeys(range(1, 37), 0)
         for _ in range(4500):
             length = self.random.choice([0, 64, 3000, 3000, LARGEST_WINDOW])
@@ -721,6 +759,8 @@ class Random(unittest.TestCase):
             stored = store(machine, base, memory, word, patch)
             counts[stored.verdict] += 1
             if stored.done:
+                if machine.flags & Flags.STRICT:
+                    self.assertEqual(moved, len(writes))
                 classes[decode(word).store.class_] += bool(active)
                 string = encoding(writes)
                 ends = [None] + [one.address + one.bytes for _, one in active]
@@ -737,9 +777,17 @@ class Random(unittest.TestCase):
                 bytes_ = ((e, (one.address + k) % 2**64) for e, one in active for k in range(one.bytes))
                 outside = next((e, address) for e, address in bytes_ if not base <= address < base + length)
                 self.assertEqual(outside, (stored.element, stored.address))
+            elif stored.verdict is Verdict.OVERLAP:
+                self.assertTrue(machine.flags & Flags.STRICT)
+                seen = {}
+                for e, one in active:
+                    for k in range(one.bytes):
+                        seen.setdefault(one.address + k, []).append(e)
+                lowest = min(elements[1] for elements in seen.values() if len(elements) > 1)
+                self.assertEqual((lowest, dict(active)[lowest].address), (stored.element, stored.address))
             else:
                 self.assertEqual((stored.element, stored.address), (0, 0))
-        for verdict in [Verdict.DONE, Verdict.ILLEGAL, Verdict.STACK, Verdict.FAULT]:
+        for verdict in [Verdict.DONE, Verdict.ILLEGAL, Verdict.STACK, Verdict.FAULT, Verdict.OVERLAP]:
             self.assertGreaterEqual(counts[verdict], 20, counts)
         self.assertTrue(all(count >= 5 for count in classes.values()), classes)
 

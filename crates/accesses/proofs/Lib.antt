@@ -4,3 +4,4 @@ pub mod Listing
 pub mod Soundness
 pub mod Sizes
 pub mod Spacing
+pub mod Apart

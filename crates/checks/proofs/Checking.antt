@@ -127,7 +127,7 @@ module _ (f : Flags) (m : Machine) (W L word : ℕ) where
       (past : (room : ℕ) → verdictOf f m W L word room ≡ verdictFor f m W L room (decodeOf word)) where
     -- none of 4 to 6 is due of s
     abbrev Concludes : Store → Type 0
-    Concludes s = (room : ℕ) → verdictOf f m W L word room ≡ concluded W L room (sizeOf (classFor s)) (elements m s)
+    Concludes s = (room : ℕ) → verdictOf f m W L word room ≡ concluded (f .strict) W L room (sizeOf (classFor s)) (elements m s)
 
     passed : (s : Store) → D.Known s ≡ decodeOf word → (es : List Element) → elements m s ≡ es → Concludes s
         → Passed f m W L word es (sizeOf (classFor s))
@@ -136,7 +136,7 @@ module _ (f : Flags) (m : Machine) (W L word : ℕ) where
           registers = o;
           window = w;
           listed = sym (ap (elementsFor m) d) ∙ q;
-          verdict = λ room. h room ∙ ap (concluded W L room (sizeOf (classFor s))) q;
+          verdict = λ room. h room ∙ ap (concluded (f .strict) W L room (sizeOf (classFor s))) q;
         }
 
     access-as : (s : Store) → D.Known s ≡ decodeOf word → refused s ≡ false → Concludes s → CheckedAs f m W L word (accessFor m s)
@@ -154,7 +154,8 @@ module _ (f : Flags) (m : Machine) (W L word : ℕ) where
         by : ℕ → Bool → Bool → Bool → Verdict
         by room a b c =
             cond a (Ver.Refused Undefined)
-            (cond b (Ver.Refused Illegal) (cond c (Ver.Refused Stack) (concluded W L room (sizeOf (classFor s)) (elements m s))))
+            (cond b (Ver.Refused Illegal)
+            (cond c (Ver.Refused Stack) (concluded (f .strict) W L room (sizeOf (classFor s)) (elements m s))))
 
         told : {a b c : Bool} → not (flagOn f (featureOf s)) ≡ a → illegal f (featureOf s) ≡ b
             → stack f (m .sp) (onStack s) (elements m s) ≡ c

@@ -91,7 +91,7 @@ abbrev pub verdictFor : Flags → Machine → ℕ → ℕ → ℕ → Decoded �
 verdictFor f m W L room d =
     cond (undefined f d) (Refused Undefined)
     (cond (illegalFor f d) (Refused Illegal)
-    (cond (stackFor f m d) (Refused Stack) (concluded W L room (sizeFor d) (elementsFor m d))))
+    (cond (stackFor f m d) (Refused Stack) (concluded (f .strict) W L room (sizeFor d) (elementsFor m d))))
 
 -- ---- from 1 on
 

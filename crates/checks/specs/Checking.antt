@@ -1,7 +1,7 @@
 -- What checks 1 to 6 find of a word's store: the refusal that is due, or what the store's elements have in common. For the contracts
 -- of the code's own functions. Assumes nothing.
 use Prim.Native.Nat.{ℕ, _*_, _/_, _%_, _≤_}
-use mathlib.Core.Bool.{true, not, cond}
+use mathlib.Core.Bool.{Bool, true, not, cond, _&&_}
 use mathlib.Core.List.{List, []}
 use mathlib.Core.Path.{_≡_}
 use lib.Dec.{ltb}
@@ -10,14 +10,14 @@ use Rattle.encoding.specs.Decoding.{decodeOf}
 use Rattle.encoding.specs.Encoding.{classFor, featureOf}
 use Rattle.encoding.specs.declared.Store.{Store}
 use Rattle.encoding.specs.declared.Store.the-variants as S
-use Rattle.writes.specs.Elements.{Element}
+use Rattle.writes.specs.Elements.{Element, firstOverlap}
 use Rattle.window.specs.Window.{windowOk}
 use Rattle.elements.specs.Machine.{Machine, register}
 use Rattle.elements.specs.Elements.{elements}
 use Rattle.elements.specs.Accesses.{VectorSound, StridedSound, vectorElements, stridedElements, scatterAccess, stridedAccess}
 use Rattle.elements.specs.Accesses.{quadwordAccess}
 use Rattle.elements.specs.declared.VectorAccess.{VectorAccess}
-use Rattle.verdicts.specs.Verdicts.{elementsFor, patchOf, flagOn, illegal, onStack, stack, firstOutside, found, faultOf}
+use Rattle.verdicts.specs.Verdicts.{elementsFor, patchOf, flagOn, illegal, onStack, stack, firstOutside, found, faultOf, overlapOf}
 use Rattle.verdicts.specs.Verdicts.{doneOf, verdictOf, refusalNumber}
 use Rattle.verdicts.specs.declared.Flags.{Flags}
 use Rattle.verdicts.specs.declared.Refusal.the-variants.{Undefined, Illegal, Stack, NoRoom}
@@ -62,18 +62,19 @@ checkedFor f m s =
     (cond (illegal f (featureOf s)) (Refused Illegal)
     (cond (stack f (m .sp) (onStack s) (elements m s)) (Refused Stack) (accessFor m s)))
 
--- verdicts 7 and 8, or done, for these elements of `size` bytes each
-abbrev pub concluded : ℕ → ℕ → ℕ → ℕ → List Element → Verdict
-concluded W L room size es =
+-- verdicts 7, 12 and 8, or done, for these elements of `size` bytes each, strict or not
+abbrev pub concluded : Bool → ℕ → ℕ → ℕ → ℕ → List Element → Verdict
+concluded strict W L room size es =
     cond (found (firstOutside W L es)) (Ver.Refused (faultOf W L (firstOutside W L es)))
-    (cond (ltb room (length (patchOf es))) (Ver.Refused NoRoom) (doneOf es size))
+    (cond (strict && found (firstOverlap es)) (Ver.Refused (overlapOf (firstOverlap es)))
+    (cond (ltb room (length (patchOf es))) (Ver.Refused NoRoom) (doneOf es size)))
 
--- none of 1 to 6 is due: the word's store has these active elements of `size` bytes each, and 7 and 8 decide
+-- none of 1 to 6 is due: the word's store has these active elements of `size` bytes each, and 7, 12 and 8 decide
 pub record Passed (f : Flags) (m : Machine) (W L word : ℕ) (es : List Element) (size : ℕ) : Type 0 where
   pub registers : Sound (m .vb) (m .z) (m .p)
   pub window : windowOk W L ≡ true
   pub listed : elementsFor m (decodeOf word) ≡ es
-  pub verdict : (room : ℕ) → verdictOf f m W L word room ≡ concluded W L room size es
+  pub verdict : (room : ℕ) → verdictOf f m W L word room ≡ concluded (f .strict) W L room size es
 
 -- what checking answers on flags and machine, for the window of L bytes at W and the word: one of refusals 1 to 6, or an access. Which
 -- access is left free, but it is sound and its active elements are the store's

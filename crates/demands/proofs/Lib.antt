@@ -1,6 +1,8 @@
 pub mod Listed
+pub mod Shared
 pub mod Sources
 pub mod Storing
+pub mod Strict
 pub mod Effects
 pub mod Applying
 pub mod Demand1

@@ -27,7 +27,7 @@ module _ (on : ℕ → Bool) (el : ℕ → Element) where
     pub is-on : on at ≡ true
     pub is : x ≡ el at
 
-  further : (k n : ℕ) (x : Element) → Among (suc k) n x → Among k (suc n) x
+  unfoldable pub further : (k n : ℕ) (x : Element) → Among (suc k) n x → Among k (suc n) x
   further k n x a = record { at = a .at; from = omega (arith, a .from); below = omega (arith, a .below); is-on = a .is-on; is = a .is }
 
   pub listed-among : (n k : ℕ) (x : Element) → Listed x (actives on el n k) → Among k n x
@@ -43,7 +43,7 @@ module _ (on : ℕ → Bool) (el : ℕ → Element) where
       go false q r f = further k n x (f r)
 
   -- the element of number k + d
-  among-listed : (n k d : ℕ) → d < n → on (k + d) ≡ true → Listed (el (k + d)) (actives on el n k)
+  pub among-listed : (n k d : ℕ) → d < n → on (k + d) ≡ true → Listed (el (k + d)) (actives on el n k)
   unfolding actives
   among-listed zero k d h q = absurd (omega arith)
   among-listed (suc n) k zero h q =

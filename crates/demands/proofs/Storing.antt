@@ -15,7 +15,7 @@ use Rattle.encoding.specs.declared.Decoded.the-variants as D
 use Rattle.encoding.specs.declared.Store.{Store}
 use Rattle.encoding.specs.declared.Store.the-variants.{Scatter, Strided, Quadword}
 use Rattle.encoding.proofs.Statements.{known-accepted}
-use Rattle.writes.specs.Elements.{Element, InWindow, netEffect}
+use Rattle.writes.specs.Elements.{Element, InWindow, netEffect, firstOverlap}
 use Rattle.writes.specs.Sets.{overlay}
 use Rattle.window.specs.Window.{windowOk, inWindow, byteOutside}
 use Rattle.endian.proofs.Order.{two, absurdly, not-both}
@@ -26,18 +26,19 @@ use Rattle.elements.specs.Machine.{Machine}
 use Rattle.elements.specs.Stores.{sizeOf, countOf}
 use Rattle.elements.specs.Elements.{activeAt, elementAt, actives, elements}
 use Rattle.verdicts.specs.Verdicts.{elementsFor, sizeFor, patchOf, lengthOk, registersOk, undefined, firstOutside, found, faultOf}
+use Rattle.verdicts.specs.Verdicts.{overlap, overlapOf}
 use Rattle.verdicts.specs.Verdicts.{table, decided, doneOf, verdictOf, refusalNumber, number}
 use Rattle.verdicts.specs.Statements.{NoneGiven, Decides, before, Listed}
 use Rattle.verdicts.specs.declared.Flags.{Flags}
 use Rattle.verdicts.specs.declared.Refusal.{Refusal}
-use Rattle.verdicts.specs.declared.Refusal.the-variants.{Length, Registers, Window, Undefined, Illegal, Stack, Fault, NoRoom}
+use Rattle.verdicts.specs.declared.Refusal.the-variants.{Length, Registers, Window, Undefined, Illegal, Stack, Fault, Overlap, NoRoom}
 use Rattle.verdicts.specs.declared.Verdict.{Verdict}
 use Rattle.verdicts.specs.declared.Verdict.the-variants.{Done, Refused}
 use Rattle.verdicts.proofs.Rows.{none-done, decides-given, decides-before, before-decides, before-decided, none-parted}
 use Rattle.verdicts.proofs.Words.{outside-found, none-found}
 use Rattle.verdicts.proofs.Statements.{first-given-decides, table-numbered, table-given-when}
 use Rattle.outcomes.specs.Storing.{memoryAfter, bufferAfter, Stored}
-use Rattle.demands.specs.Demand1.{OneOutcome}
+use Rattle.demands.specs.Demand1.{OneOutcome, OfStoring}
 use Rattle.demands.specs.Demand2.{ListsTheActive, Rising, InAscendingOrder, ByteByByte, CountsOfDone}
 use Rattle.demands.specs.Demand2.{tableFor, StoringDecided, FaultGiven, liesIn, FaultNamesTheLowest}
 use Rattle.demands.specs.Demand3.{NoneDue}
@@ -63,18 +64,19 @@ store-one f m W mem word buffer =
       );
     }
 
-refusal-numbered : (r : Refusal) → refusalNumber r ≤ 8
-refusal-numbered Length = omega arith
-refusal-numbered Registers = omega arith
-refusal-numbered Window = omega arith
-refusal-numbered Undefined = omega arith
-refusal-numbered Illegal = omega arith
-refusal-numbered Stack = omega arith
-refusal-numbered (Fault e a) = omega arith
-refusal-numbered NoRoom = omega arith
+refusal-numbered : (r : Refusal) → OfStoring (refusalNumber r)
+refusal-numbered Length = inl (omega arith)
+refusal-numbered Registers = inl (omega arith)
+refusal-numbered Window = inl (omega arith)
+refusal-numbered Undefined = inl (omega arith)
+refusal-numbered Illegal = inl (omega arith)
+refusal-numbered Stack = inl (omega arith)
+refusal-numbered (Fault e a) = inl (omega arith)
+refusal-numbered (Overlap e a) = inr refl
+refusal-numbered NoRoom = inl (omega arith)
 
-pub numbered : (v : Verdict) → number v ≤ 8
-numbered (Done n b k t) = omega arith
+pub numbered : (v : Verdict) → OfStoring (number v)
+numbered (Done n b k t) = inl (omega arith)
 numbered (Refused r) = refusal-numbered r
 
 pub store-keeps : (f : Flags) (m : Machine) (W : ℕ) (mem : List ℕ) (word : ℕ) (buffer : List ℕ) (v : Verdict) (mem′ buffer′ : List ℕ)
@@ -202,17 +204,20 @@ fault-is f m W mem word buffer e a mem′ buffer′ c =
     let rs = tableFor f m W mem word buffer in
     let es = elementsFor m (decodeOf word) in
     let d = storing-decided f m W mem word buffer (Refused (Fault e a)) mem′ buffer′ c .0 7 (λ q. omega (arith, q)) .0 refl in
-    go (firstOutside W (length mem) es) refl (ltb (length buffer) (length (patchOf es)))
+    go (firstOutside W (length mem) es) refl (overlap f es) (firstOverlap es) (ltb (length buffer) (length (patchOf es)))
     (c .answer ∙ before-decided 7 rs _ (decides-before 7 rs d))
   where
-    go : (o : Option Element) → firstOutside W (length mem) (elementsFor m (decodeOf word)) ≡ o → (t : Bool)
+    go : (o : Option Element) → firstOutside W (length mem) (elementsFor m (decodeOf word)) ≡ o → (u : Bool) (p : Option Element) (t : Bool)
         → Refused (Fault e a)
         ≡ cond (found o) (Refused (faultOf W (length mem) o))
-        (cond t (Refused NoRoom) (doneOf (elementsFor m (decodeOf word)) (sizeFor (decodeOf word))))
+        (cond u (Refused (overlapOf p))
+        (cond t (Refused NoRoom) (doneOf (elementsFor m (decodeOf word)) (sizeFor (decodeOf word)))))
         → Faults W (length mem) e a (elementsFor m (decodeOf word))
-    go none q true p = absurdly cc
-    go none q false p = absurdly cc
-    go (some x) q t p = record { element = x; first = q; number = cc; address = cc }
+    go none q true none t r = absurdly cc
+    go none q true (some x) t r = absurdly cc
+    go none q false p true r = absurdly cc
+    go none q false p false r = absurdly cc
+    go (some x) q u p t r = record { element = x; first = q; number = cc; address = cc }
 
 -- what is settled where 7 is answered
 fault-settled : (f : Flags) (m : Machine) (W : ℕ) (mem : List ℕ) (word : ℕ) (buffer : List ℕ) (e a : ℕ) (mem′ buffer′ : List ℕ)

@@ -28,6 +28,10 @@ pub record OneOutcome {A : Type 0} (P : A → List ℕ → List ℕ → Type 0) 
   pub meets : P answer memory buffer
   pub only : (a : A) (l k : List ℕ) → P a l k → (a ≡ answer) × (l ≡ memory) × (k ≡ buffer)
 
+-- the numbers of the verdicts on a store: document 01's, done among them, and document 02 (viii)'s
+abbrev pub OfStoring : ℕ → Type 0
+OfStoring n = (n ≤ 8) ⊎ (n ≡ 12)
+
 -- the numbers of document 01's verdicts on applying
 abbrev pub OfApplying : ℕ → Type 0
 OfApplying n = (n ≡ 0) ⊎ ((n ≡ 3) ⊎ ((n ≡ 9) ⊎ (n ≡ 10)))
@@ -40,7 +44,7 @@ pub record Demand1 : Type 0 where
   -- "done, or one of the numbered refusals of document 01, among them undefined, illegal, fault and no room"; document 02 (ix): "one
   -- call checks 1 to 7, 12 and 8"; "Applying checks 3, 9, 10."; "Done is number 0". The answers have no other kinds.
   pub store-numbered : (f : Flags) (m : Machine) (W : ℕ) (mem : List ℕ) (word : ℕ) (buffer : List ℕ) (v : Verdict) (mem′ buffer′ : List ℕ)
-      → Stored f m W mem word buffer v mem′ buffer′ → number v ≤ 8
+      → Stored f m W mem word buffer v mem′ buffer′ → OfStoring (number v)
   pub apply-numbered : (W : ℕ) (mem s : List ℕ) (r : Applied) (mem′ : List ℕ) → AppliedTo W mem s r mem′ → OfApplying (appliedNumber r)
   -- "Every verdict but done leaves memory and patch buffer byte for byte as they came."
   pub store-keeps : (f : Flags) (m : Machine) (W : ℕ) (mem : List ℕ) (word : ℕ) (buffer : List ℕ) (v : Verdict) (mem′ buffer′ : List ℕ)

@@ -26,9 +26,9 @@ use Rattle.elements.specs.Machine.{Machine}
 use Rattle.elements.specs.Stores.{sizeOf, countOf, registerIn, indexIn}
 use Rattle.elements.specs.Elements.{activeAt, elementAt, elements}
 use Rattle.verdicts.specs.Verdicts.{elementsFor, patchOf, lengthOk, registersOk, Row, table, number}
-use Rattle.verdicts.specs.Statements.{NoneGiven, Decides, before, TableNumbered, TableInOrder, TableGivenWhen, Listed}
+use Rattle.verdicts.specs.Statements.{NoneGiven, Decides, before, TableNumbered, TableInOrder, TableGivenWhen, Listed, Writes}
 use Rattle.verdicts.specs.declared.Flags.{Flags}
-use Rattle.verdicts.specs.declared.Refusal.the-variants.{Fault}
+use Rattle.verdicts.specs.declared.Refusal.the-variants.{Fault, Overlap}
 use Rattle.verdicts.specs.declared.Verdict.{Verdict}
 use Rattle.verdicts.specs.declared.Verdict.the-variants.{Done, Refused}
 use Rattle.outcomes.specs.Storing.{Stored, numbers}
@@ -109,6 +109,25 @@ FaultGiven =
     → (number v ≡ 7)
     ↔ (NoneGiven (before 7 (tableFor f m W mem word buffer)) × SomeByteOutside W (length mem) (elementsFor m (decodeOf word)))
 
+-- elements d and e of a store share a byte: an address that both write
+abbrev pub ShareAByte : Machine → Store → ℕ → ℕ → Type 0
+ShareAByte m s d e = (a : ℕ) × Writes (elementAt m s d) a × Writes (elementAt m s e) a
+
+-- document 02 (viii): "two different active elements share a byte"
+abbrev pub TwoActiveShare : Machine → Store → Type 0
+TwoActiveShare m s =
+    (d : ℕ) × (e : ℕ) × (d < e) × (e < countOf m s) × (activeAt m s d ≡ true) × (activeAt m s e ≡ true) × ShareAByte m s d e
+
+-- "With it on, verdict 12 is given exactly when" they do, where nothing is given that stands before it
+abbrev pub OverlapGiven : Type 0
+OverlapGiven =
+    (f : Flags) (m : Machine) (W : ℕ) (mem : List ℕ) (word : ℕ) (buffer : List ℕ) (v : Verdict) (mem′ buffer′ : List ℕ)
+    → Stored f m W mem word buffer v mem′ buffer′
+    → (number v ≡ 12)
+    ↔ (NoneGiven (before 12 (tableFor f m W mem word buffer))
+    × (f .strict ≡ true)
+    × ((s : Store) × (decodeOf word ≡ D.Known s) × TwoActiveShare m s))
+
 -- "a run isn't wholly in the window"
 abbrev pub SomeRunOutside : ℕ → ℕ → List Run → Type 0
 SomeRunOutside W L rs = (a : ℕ) × (p : List ℕ) × Among a p rs × (inWindow W L a (length p) ≡ false)
@@ -145,6 +164,17 @@ FaultNamesTheLowest =
     × (liesIn W (length mem) m s e ≡ false)
     × ((d : ℕ) → d < e → activeAt m s d ≡ true → liesIn W (length mem) m s d ≡ true)
 
+-- document 02 (viii): "returns the lowest active element that shares one with a lower active element, and its first address"
+abbrev pub OverlapNamesTheLowest : Type 0
+OverlapNamesTheLowest =
+    (f : Flags) (m : Machine) (W : ℕ) (mem : List ℕ) (word : ℕ) (buffer : List ℕ) (e a : ℕ) (mem′ buffer′ : List ℕ) (s : Store)
+    → Stored f m W mem word buffer (Refused (Overlap e a)) mem′ buffer′ → decodeOf word ≡ D.Known s
+    → (e < countOf m s)
+    × (activeAt m s e ≡ true)
+    × (a ≡ elementAt m s e .address)
+    × ((d : ℕ) × (d < e) × (activeAt m s d ≡ true) × ShareAByte m s d e)
+    × ((c d : ℕ) → c < e → activeAt m s c ≡ true → d < c → activeAt m s d ≡ true → ShareAByte m s d c → ⊥)
+
 -- "lowest such run, its first address": the run of that number starts there and isn't wholly in the window, those before it are
 abbrev pub OutsideNamesTheLowest : Type 0
 OutsideNamesTheLowest =
@@ -158,12 +188,13 @@ OutsideNamesTheLowest =
     × (inWindow W (length mem) a (length p) ≡ false)
     × ((t : ℕ) (q : List ℕ) → Among t q before → inWindow W (length mem) t (length q) ≡ true)
 
--- the six numbers: "Done [..] has zeros as its detail; a refusal's counts and lengths are 0."; zeros for all refusals but 7
+-- the six numbers: "Done [..] has zeros as its detail; a refusal's counts and lengths are 0."; zeros for all refusals but 7 and 12
 abbrev pub StoringReturns : Type 0
 StoringReturns =
     ((n b k t : ℕ) → numbers (Done n b k t) ≡ 0 ∷ 0 ∷ n ∷ b ∷ k ∷ t ∷ [])
     × ((e a : ℕ) → numbers (Refused (Fault e a)) ≡ e ∷ a ∷ 0 ∷ 0 ∷ 0 ∷ 0 ∷ [])
-    × ((v : Verdict) → (number v ≡ 0 → ⊥) → (number v ≡ 7 → ⊥) → numbers v ≡ 0 ∷ 0 ∷ 0 ∷ 0 ∷ 0 ∷ 0 ∷ [])
+    × ((e a : ℕ) → numbers (Refused (Overlap e a)) ≡ e ∷ a ∷ 0 ∷ 0 ∷ 0 ∷ 0 ∷ [])
+    × ((v : Verdict) → (number v ≡ 0 → ⊥) → (number v ≡ 7 → ⊥) → (number v ≡ 12 → ⊥) → numbers v ≡ 0 ∷ 0 ∷ 0 ∷ 0 ∷ 0 ∷ 0 ∷ [])
 
 abbrev pub ApplyingReturns : Type 0
 ApplyingReturns =
@@ -214,11 +245,13 @@ pub record Demand2 : Type 0 where
   pub given-when : TableGivenWhen
   pub storing : StoringDecided
   pub fault : FaultGiven
+  pub overlap : OverlapGiven
   pub applying : ApplyingDecided
   pub encoding : RefusedForACause
   pub encoding-numbers : RefusesNumbers
-  -- "Returns besides the number" (document 01)
+  -- "Returns besides the number" (document 01), and document 02 (viii)'s
   pub fault-names : FaultNamesTheLowest
+  pub overlap-names : OverlapNamesTheLowest
   pub outside-names : OutsideNamesTheLowest
   pub storing-returns : StoringReturns
   pub applying-returns : ApplyingReturns

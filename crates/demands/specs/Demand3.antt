@@ -28,8 +28,9 @@ use Rattle.patch.specs.declared.Applied.the-variants as A
 
 -- ---- a done store
 
--- "A store is done when no refusal that stands before 8 is due": flags, machine and word over a window of L bytes at W. The lines before 8
--- don't look at the buffer: it is taken as empty here.
+-- "A store is done when no refusal that stands before 8 is due", 12 among them (document 02 (viii): "Demand 3 ranges over stores done under
+-- either setting."): flags, machine and word over a window of L bytes at W. The lines before 8 don't look at the buffer: it is taken as
+-- empty here.
 abbrev pub NoneDue : Flags → Machine → ℕ → ℕ → ℕ → Type 0
 NoneDue f m W L word = NoneGiven (before 8 (table f m W L (decodeOf word) 0))
 

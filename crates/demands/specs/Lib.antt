@@ -6,3 +6,4 @@ pub mod Demand3
 pub mod Steps
 pub mod Spacing
 pub mod Editions
+pub mod Strict

@@ -237,6 +237,16 @@ fn refused(r: Refusal) {
             );
             address(a, b"h: 7 fault\n");
         }
+        Refusal::Overlap {
+            element,
+            address: a,
+        } => {
+            number(
+                element as usize,
+                b" is the lowest element that shares a byte with a lower one, at ",
+            );
+            address(a, b"h: 12 overlap\n");
+        }
         Refusal::NoRoom => say(b"8 no room\n"),
     }
 }

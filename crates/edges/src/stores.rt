@@ -12,6 +12,7 @@ fn flags() -> Flags {
         fa64: true,
         sp_check: false,
         sp_check_none_active: false,
+        strict: false,
         early: false,
     }
 }

@@ -9,4 +9,4 @@ use Rattle.numbers.specs.Flags.{FlagsAreBits}
 
 pub flags-are-bits : FlagsAreBits
 flags-are-bits n =
-    ap (λ (m : ℕ). eqb (m % 2) 1 ∷ map (λ (i : ℕ). eqb (bit n i) 1) (1 ∷ 2 ∷ 3 ∷ 4 ∷ 5 ∷ 6 ∷ 8 ∷ [])) (sym (div-one n))
+    ap (λ (m : ℕ). eqb (m % 2) 1 ∷ map (λ (i : ℕ). eqb (bit n i) 1) (1 ∷ 2 ∷ 3 ∷ 4 ∷ 5 ∷ 6 ∷ 7 ∷ 8 ∷ [])) (sym (div-one n))

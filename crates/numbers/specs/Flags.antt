@@ -8,7 +8,7 @@ use Rattle.encoding.specs.Classes.{bit}
 use Rattle.verdicts.specs.declared.Flags.{Flags}
 
 -- bits 0 to 6 are document 01's flags in its order (SVE, SME2, SVE2p1, streaming, FA64, SP check, SP check with nothing active);
--- bit 8 is the edition of document 02 (vi): "8 early edition" (xiii). The other bits are ignored.
+-- bit 7 is document 02 (viii)'s, strict, and bit 8 the edition of document 02 (vi): "8 early edition" (xiii). Higher bits are ignored.
 abbrev pub flagsOf : ℕ → Flags
 flagsOf n =
     record {
@@ -19,14 +19,15 @@ flagsOf n =
       fa64 = eqb (n / 16 % 2) 1;
       «sp_check» = eqb (n / 32 % 2) 1;
       «sp_check_none_active» = eqb (n / 64 % 2) 1;
+      strict = eqb (n / 128 % 2) 1;
       early = eqb (n / 256 % 2) 1;
     }
 
--- a machine's flags in document 01's order, and its edition
+-- a machine's flags in document 01's order, and document 02's behind them
 abbrev pub flagsInOrder : Flags → List Bool
 flagsInOrder f =
-    f .sve ∷ f .sme2 ∷ f .sve2p1 ∷ f .streaming ∷ f .fa64 ∷ f .«sp_check» ∷ f .«sp_check_none_active» ∷ f .early ∷ []
+    f .sve ∷ f .sme2 ∷ f .sve2p1 ∷ f .streaming ∷ f .fa64 ∷ f .«sp_check» ∷ f .«sp_check_none_active» ∷ f .strict ∷ f .early ∷ []
 
--- they are the bits from 0 to 6, and 8
+-- they are the bits from 0 to 8
 abbrev pub FlagsAreBits : Type 0
-FlagsAreBits = (n : ℕ) → flagsInOrder (flagsOf n) ≡ map (λ i. eqb (bit n i) 1) (0 ∷ 1 ∷ 2 ∷ 3 ∷ 4 ∷ 5 ∷ 6 ∷ 8 ∷ [])
+FlagsAreBits = (n : ℕ) → flagsInOrder (flagsOf n) ≡ map (λ i. eqb (bit n i) 1) (0 ∷ 1 ∷ 2 ∷ 3 ∷ 4 ∷ 5 ∷ 6 ∷ 7 ∷ 8 ∷ [])

@@ -18,6 +18,7 @@ pub fn flags_of(n: u64) -> Flags
         fa64: n / 16 % 2 == 1,
         sp_check: n / 32 % 2 == 1,
         sp_check_none_active: n / 64 % 2 == 1,
+        strict: n / 128 % 2 == 1,
         early: n / 256 % 2 == 1,
     }
 }
@@ -36,6 +37,10 @@ fn refusal_number(r: Refusal) -> u64
             element: _,
             address: _,
         } => 7,
+        Refusal::Overlap {
+            element: _,
+            address: _,
+        } => 12,
         Refusal::NoRoom => 8,
     }
 }
@@ -52,6 +57,7 @@ fn detail_of(r: Refusal) -> [u64; 2]
         Refusal::Illegal => [0, 0],
         Refusal::Stack => [0, 0],
         Refusal::Fault { element, address } => [element, address],
+        Refusal::Overlap { element, address } => [element, address],
         Refusal::NoRoom => [0, 0],
     }
 }

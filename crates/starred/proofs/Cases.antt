@@ -5,7 +5,7 @@ use Rattle.encoding.specs.Decoding.{multipleOf, storeOf, indexOf, decodeOf}
 use Rattle.encoding.specs.Encoding.{rowOf, lowest}
 use Rattle.endian.specs.LittleEndian.{leVal, leBytes}
 use Rattle.writes.specs.Sets.{join, runs, writesAt}
-use Rattle.writes.specs.Elements.{written, below, from, splice, spliceAll, stepsFrom}
+use Rattle.writes.specs.Elements.{written, below, from, splice, spliceAll, stepsFrom, coversSome, sharesWith, overlapFrom}
 use Rattle.endian.specs.Overwriting.{overwritten}
 use Rattle.writes.specs.Encoding.{runThen, runsThen, trailer, encodeRuns, encode}
 use Rattle.window.specs.Window.{windowOk, inWindow, outsideFrom}
@@ -19,5 +19,6 @@ pub starred-cases : StarredCases
 unfolding classes classAt position any everyBelow inside belongs has multipleOf storeOf indexOf decodeOf rowOf leVal leBytes join runs
     writesAt overwritten written below from splice spliceAll runThen runsThen trailer encodeRuns encode windowOk inWindow outsideFrom bitAt
     lowestSet lowest highest countIn
-    maskBit activeAt elementAt actives elements patchOf oneOfFive lengthOk registersOk firstOutside decided verdictOf stepsFrom cases
+    maskBit activeAt elementAt actives elements patchOf oneOfFive lengthOk registersOk firstOutside decided verdictOf stepsFrom
+    coversSome sharesWith overlapFrom cases
 starred-cases = refl

@@ -48,9 +48,9 @@ due : NoneDue plain first 0x1000 6 word × NoneDue plain second 0x1000 6 word ×
 unfolding classes classAt position any everyBelow inside belongs has storeOf indexOf decodeOf rowOf leVal windowOk inWindow bitAt activeAt
     elementAt actives elements oneOfFive lengthOk registersOk firstOutside
 due = (
-  (refl, (refl, (refl, (refl, (refl, (refl, (refl, tt))))))),
-  (refl, (refl, (refl, (refl, (refl, (refl, (refl, tt))))))),
-  (refl, (refl, (refl, (refl, (refl, (refl, (refl, tt))))))),
+  (refl, (refl, (refl, (refl, (refl, (refl, (refl, (refl, tt)))))))),
+  (refl, (refl, (refl, (refl, (refl, (refl, (refl, (refl, tt)))))))),
+  (refl, (refl, (refl, (refl, (refl, (refl, (refl, (refl, tt)))))))),
 )
 
 strings : (patchFor first word ≡ examplePatch) × (patchFor second word ≡ examplePatch) × (patchFor idle word ≡ 0x50 ∷ 0x45 ∷ 0 ∷ 0 ∷ [])
@@ -67,7 +67,7 @@ counted = refl
 largest-due : NoneDue streaming largest 0x1000 1023 0xA1608000
 unfolding classes classAt position any everyBelow inside belongs has multipleOf storeOf indexOf decodeOf rowOf leVal windowOk inWindow
     lowestSet lowest highest countIn maskBit activeAt elementAt actives elements oneOfFive lengthOk registersOk firstOutside
-largest-due = (refl, (refl, (refl, (refl, (refl, (refl, (refl, tt)))))))
+largest-due = (refl, (refl, (refl, (refl, (refl, (refl, (refl, (refl, tt))))))))
 
 largest-length : length (patchFor largest 0xA1608000) ≡ 6660
 unfolding classes classAt position any everyBelow inside belongs has multipleOf storeOf indexOf decodeOf rowOf leVal lowestSet lowest
@@ -114,7 +114,7 @@ whole-example =
 older-due : NoneDue older twelve 0x1000 6 word
 unfolding classes classAt position any everyBelow inside belongs has storeOf indexOf decodeOf rowOf leVal windowOk inWindow bitAt activeAt
     elementAt actives elements oneOfFive lengthOk registersOk firstOutside
-older-due = (refl, (refl, (refl, (refl, (refl, (refl, (refl, tt)))))))
+older-due = (refl, (refl, (refl, (refl, (refl, (refl, (refl, (refl, tt))))))))
 
 older-string : patchFor twelve word ≡ examplePatch
 unfolding classes classAt position any everyBelow inside belongs has storeOf indexOf decodeOf rowOf leVal bitAt activeAt elementAt actives

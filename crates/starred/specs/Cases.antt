@@ -16,7 +16,7 @@ use Rattle.elements.specs.Machine.{Machine, machine}
 use Rattle.elements.specs.Counter.{counterOf, countIn}
 use Rattle.verdicts.specs.Verdicts.{elementsFor, verdictOf}
 use Rattle.verdicts.specs.declared.Flags.{Flags}
-use Rattle.verdicts.specs.declared.Refusal.the-variants.{Length, Undefined, Illegal, Fault}
+use Rattle.verdicts.specs.declared.Refusal.the-variants.{Length, Undefined, Illegal, Fault, Overlap}
 use Rattle.verdicts.specs.declared.Verdict.{Verdict}
 use Rattle.verdicts.specs.declared.Verdict.the-variants.{Done, Refused}
 use Rattle.outcomes.specs.Storing.{memoryAfter}
@@ -72,6 +72,22 @@ plain =
       fa64 = false;
       «sp_check» = false;
       «sp_check_none_active» = false;
+      strict = false;
+      early = false;
+    }
+
+-- SVE and strict
+abbrev pub strict : Flags
+strict =
+    record {
+      sve = true;
+      sme2 = false;
+      sve2p1 = false;
+      streaming = false;
+      fa64 = false;
+      «sp_check» = false;
+      «sp_check_none_active» = false;
+      strict = true;
       early = false;
     }
 
@@ -85,6 +101,7 @@ streaming =
       fa64 = false;
       «sp_check» = false;
       «sp_check_none_active» = false;
+      strict = false;
       early = false;
     }
 
@@ -99,6 +116,7 @@ quadwords e s =
       fa64 = true;
       «sp_check» = false;
       «sp_check_none_active» = false;
+      strict = false;
       early = e;
     }
 
@@ -122,6 +140,11 @@ high = 1 ∷ 0 ∷ 0 ∷ 0 ∷ 0 ∷ 0 ∷ 0 ∷ 0x20 ∷ replicate 8 0
 -- one that takes 1000h to FFFFFFFFFFFFFFFCh
 abbrev pub top : List ℕ
 top = 0xFC ∷ 0xEF ∷ 0xFF ∷ 0xFF ∷ 0xFF ∷ 0xFF ∷ 0xFF ∷ 0xFF ∷ replicate 8 0
+
+-- both doublewords of a register are active, the first at offset 0
+abbrev pub pair : ℕ → Machine
+pair offset =
+    machine 16 (0x1000 ∷ replicate 30 0) 0 (vectors (replicate 8 0 ++ (offset ∷ replicate 7 0))) (1 ∷ 1 ∷ replicate 30 0)
 
 -- ---- the table
 
@@ -201,6 +224,10 @@ cases =
     -- so a strided word gets 1 with streaming on, and 5 with it off
     ∷ case 0xA1606000 (quadwords true true) at48 0x1000 48 (strided 10 (pos 0) 0) (Refused Length) (replicate 48 0) 0
     ∷ case 0xA1606000 (quadwords true false) at48 0x1000 48 (strided 10 (pos 0) 0) (Refused Illegal) (replicate 48 0) 0
+    -- document 02 (viii): doublewords at 1000h and 1004h "share a byte", strict or not; at 1000h and 1008h they don't
+    ∷ case 0xE581A000 strict (pair 4) 0x1000 16 (scatter 4 None) (Refused (Overlap 1 0x1004)) (replicate 16 0) 0
+    ∷ case 0xE581A000 plain (pair 4) 0x1000 16 (scatter 4 None) (Done 2 16 28 2) (take 4 (rows 0) ++ (drop 8 (rows 0) ++ replicate 4 0)) 0
+    ∷ case 0xE581A000 strict (pair 8) 0x1000 16 (scatter 4 None) (Done 2 16 32 1) (rows 0) 0
     ∷ []
 
 -- ---- what the definitions say

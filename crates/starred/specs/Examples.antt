@@ -72,6 +72,7 @@ older =
       fa64 = false;
       «sp_check» = false;
       «sp_check_none_active» = false;
+      strict = false;
       early = true;
     }
 

@@ -58,7 +58,7 @@ pub extern "C" fn starshackle_encode(fields: &[u64; 8], answer: &mut [u64; 5]) -
 
 // Runs the store that a word is and makes its patch at the front of `patch`: 0 with active elements, bytes, the patch's length and the
 // steps in answers 2 to 5, or a refusal, 7 with the lowest element outside in answer 0 and in answer 1 the address, modulo 2^64, of the
-// first of its bytes that isn't in the window.
+// first of its bytes that isn't in the window, 12 with the lowest element that shares a byte with a lower one and its first address.
 #[no_mangle]
 pub extern "C" fn starshackle_store(
     vb: usize,

@@ -1,4 +1,4 @@
-// The merged call: checks 1 to 7 and 8 in that order, then memory and patch buffer are written together.
+// The merged call: checks 1 to 7, 12 and 8 in that order, then memory and patch buffer are written together.
 ghost use Rattle.elements.specs.Machine.{machine};
 ghost use Rattle.outcomes.specs.Storing.{Stored};
 use checks::Checked;
@@ -24,7 +24,17 @@ pub fn store(
 {
     match checks::check(vb, flags, x, sp, z, p, base, memory.len() as u64, word) {
         Checked::Refused { refusal } => Verdict::Refused { refusal },
-        Checked::Vector { access } => vectors::store_vector(access, vb, z, p, base, memory, patch),
+        Checked::Vector { access } => vectors::store_vector(
+            access,
+            vb,
+            flags.strict,
+            z,
+            p,
+            base,
+            memory,
+            patch,
+        ),
+        // No two elements of a strided store share a byte, so that strict changes nothing.
         Checked::Strided { access } => strided::store_strided(access, vb, z, base, memory, patch),
     }
 }

@@ -1,33 +1,37 @@
 -- `finish`, from keys to memory and patch: what each step requires, and what is answered. Assumes nothing.
 use mathlib.Core.Path.{_≡_, refl, sym, ap, ap₂, _∙_, subst}
-use Prim.Native.Nat.{ℕ, zero, suc, _+_, _-_, _*_, _≤_, _<_}
-use mathlib.Core.Bool.{false}
+use Prim.Native.Nat.{ℕ, zero, suc, _+_, _-_, _*_, _^_, _≤_, _<_}
+use mathlib.Core.Bool.{Bool, true, false, not, cond, _&&_}
 use mathlib.Core.List.{List, [], _∷_}
+use mathlib.Core.Option.{none, some}
 use native.Mathlib.Nat.{suc-mul}
 use native.Mathlib.Omega.{arith}
 use lib.Dec.{leb}
 use lib.ListN.{length, getD}
-use borrow.Author.Tests.{leb-false, lt-leb}
+use borrow.Author.Tests.{leb-false, lt-leb, le-ltb}
 use Rattle.endian.specs.LittleEndian.{Bytes}
 use Rattle.writes.specs.Encoding.{encodeRuns, encode}
-use Rattle.writes.specs.Elements.{Element, netEffect, written, stepsOf}
+use Rattle.writes.specs.Elements.{Element, netEffect, written, stepsOf, firstOverlap}
 use Rattle.endian.specs.Overwriting.{overwritten}
-use Rattle.ordering.specs.Keys.{entries, filed, sorted, Each, Distinct}
+use Rattle.ordering.specs.Keys.{numberOf, entries, filed, sorted, Each, Distinct}
 use Rattle.ordering.proofs.Sorting.{length-entries, entries-all, entries-cons, length-sorted}
 use Rattle.stretches.specs.Intervals.{Interval, interval, total}
 use Rattle.stretches.specs.Stretches.{startOf, bytesOf, keysOf, joined, mergedFrom, merged, sum, Sized, Rising, Ordered}
 use Rattle.stretches.proofs.Joining.{open-one, size-at}
 use Rattle.stretches.proofs.Keying.{keys-sized, length-keys, stretches-steps, stretches-distinct}
+use Rattle.overlapping.specs.Overlaps.{parted, firstMeeting, isFound}
+use Rattle.overlapping.proofs.Keyed.{none-shared, key-names, stretches-shared}
 use Rattle.cutting.specs.Cutting.{cut}
 use Rattle.cutting.proofs.Patched.{patch-ordered, patch-sum, patch-length, patch-made}
 use Rattle.verdicts.specs.Verdicts.{patchOf}
-use Rattle.verdicts.specs.declared.Refusal.the-variants.{NoRoom}
+use Rattle.verdicts.specs.declared.Refusal.the-variants.{Overlap, NoRoom}
+use Rattle.verdicts.specs.declared.Verdict.{Verdict}
 use Rattle.verdicts.specs.declared.Verdict.the-variants.{Done, Refused}
-use Rattle.outcomes.specs.Steps.{StoredOf}
+use Rattle.outcomes.specs.Steps.{StoredUnder, StoredOf}
 use Rattle.writing.specs.Writing.{putAll, Placed}
 use Rattle.writing.proofs.Writing.{keys-placed, keys-written}
 use Rattle.vectors.specs.Steps.{Ready}
-use Rattle.outcomes.proofs.Concluding.{stored-short, stored-done}
+use Rattle.outcomes.proofs.Concluding.{stored-short, stored-done, under-clear, stored-overlap}
 
 module _ (W step size : ℕ) (mem stored A : List ℕ) (n : ℕ) (es : List Element) (R : Ready W (length mem) step size stored A n es) where
   pub ready-count : n ≡ length es
@@ -60,6 +64,28 @@ module _ (W step size : ℕ) (mem stored A : List ℕ) (n : ℕ) (es : List Elem
       subst (λ (K : List ℕ). Distinct (joined size K)) (sym (R .keys))
       (stretches-distinct W (length mem) size (R .some) (R .wide) es (R .seen) few)
 
+  -- ---- elements that share a byte
+
+  -- none does where no key does
+  ready-clear : isFound (firstMeeting (entries A 0 n)) ≡ false → firstOverlap es ≡ none
+  ready-clear q =
+      none-shared W (length mem) size (R .some) (R .wide) es (R .seen) (ap (λ (K : List ℕ). isFound (firstMeeting K)) (sym (R .keys)) ∙ q)
+
+  module _ (k : ℕ) (q : firstMeeting (entries A 0 n) ≡ some k) where
+    named : (x : Element) × (firstOverlap es ≡ some x) × (numberOf k ≡ x .number) × (W + startOf k ≡ x .address)
+        × (x .address + size ≤ W + length mem)
+    named =
+        key-names W (length mem) size (R .some) (R .wide) es (R .seen) k (sym (ap (λ (K : List ℕ). firstMeeting K) (R .keys)) ∙ q)
+
+    -- its first address is one of 64 bits
+    pub ready-address : W + startOf k < 2 ^ 64
+    ready-address = omega (arith, named .3, named .4, R .top, R .some)
+
+    pub ready-overlap : (strict : Bool) → strict ≡ true → (out : List ℕ) (e a : ℕ) → e ≡ numberOf k → a ≡ W + startOf k
+        → StoredUnder strict W size mem out es (Refused (Overlap e a)) mem out
+    ready-overlap strict t out e a en ea =
+        stored-overlap strict t (R .inside) e a (named .0) (named .1) (en ∙ named .2) (ea ∙ named .3)
+
   module _ (C : List ℕ) (m : ℕ) (s : entries C 0 m ≡ sorted (joined size (entries A 0 n))) (l : m ≤ length C) (b : Bytes mem) where
     sorted-are : entries C 0 m ≡ sorted (joined size (keysOf W size es))
     sorted-are = s ∙ ap (λ (K : List ℕ). sorted (joined size K)) (R .keys)
@@ -80,6 +106,19 @@ module _ (W step size : ℕ) (mem stored A : List ℕ) (n : ℕ) (es : List Elem
     steps =
         sym (length-entries C 0 m) ∙ ap length sorted-are ∙ length-sorted (joined size (keysOf W size es))
         ∙ stretches-steps W (length mem) size (R .some) (R .wide) es (R .seen)
+
+    -- the pass over the stretches tells whether two keys share a byte
+    pub ready-parted : not (parted 0 (entries C 0 m)) ≡ isFound (firstMeeting (entries A 0 n))
+    ready-parted =
+        ap (λ (K : List ℕ). not (parted 0 K)) sorted-are
+        ∙ stretches-shared W (length mem) size (R .some) (R .wide) es (R .seen) few
+        ∙ ap (λ (K : List ℕ). isFound (firstMeeting K)) (sym (R .keys))
+
+    -- where 12 isn't due, what is answered with strict off
+    pub ready-under : (strict : Bool) → strict && not (parted 0 (entries C 0 m)) ≡ false → {out mem′ out′ : List ℕ} {v : Verdict}
+        → StoredOf W size mem out es v mem′ out′ → StoredUnder strict W size mem out es v mem′ out′
+    ready-under true q s = under-clear true s (ready-clear (sym ready-parted ∙ q))
+    ready-under false q s = s
 
     pub ready-short : (out : List ℕ) → leb (total (merged (entries C 0 m)) + 4) (length out) ≡ false
         → StoredOf W size mem out es (Refused NoRoom) mem out
@@ -164,6 +203,15 @@ module _ (W step size : ℕ) (mem stored A : List ℕ) (n : ℕ) (es : List Elem
         let o = ready-ordered (stretch ∷ []) 1 one-sorted (omega arith) b in
         let r : Rising (length mem) 0 (stretch ∷ []) = subst (Rising (length mem) 0) one-entry (o .rising) in
         omega (arith, r .1, one-start, one-bytes)
+
+    -- one stretch shares no byte
+    pub one-under : Bytes mem → (strict : Bool) {out mem′ out′ : List ℕ} {v : Verdict} → StoredOf W size mem out es v mem′ out′
+        → StoredUnder strict W size mem out es v mem′ out′
+    unfolding entries parted
+    one-under b strict s =
+        let p = ready-parted (stretch ∷ []) 1 one-sorted (omega arith) b in
+        under-clear strict s
+        (ready-clear (sym p ∙ ap (λ (t : Bool). not (cond t false true)) (le-ltb (startOf stretch) 0 (omega arith))))
 
     module _ (b : Bytes mem) (out : List ℕ) where
       pub one-short : length out < n * size + 16 → StoredOf W size mem out es (Refused NoRoom) mem out

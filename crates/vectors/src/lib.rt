@@ -1,4 +1,4 @@
-// Scatter and quadword stores from verdict 7 on: keys, stretches, room, memory, patch.
+// Scatter and quadword stores from verdict 7 on: keys, stretches, verdict 12, room, memory, patch.
 ghost use mathlib.Core.Path.{_≡_};
 ghost use mathlib.Core.Bool.{true};
 ghost use mathlib.Core.List.{List};
@@ -10,7 +10,7 @@ ghost use Rattle.elements.specs.Accesses.{VectorSound};
 ghost use Rattle.ordering.specs.Keys.{entries};
 ghost use Rattle.stretches.specs.Stretches.{joined};
 ghost use Rattle.checks.specs.Checking.{Sound, vectorsIn};
-ghost use Rattle.outcomes.specs.Steps.{StoredOf};
+ghost use Rattle.outcomes.specs.Steps.{StoredUnder, StoredOf};
 ghost use Rattle.vectors.specs.Steps.{Ready};
 use elements::VectorAccess;
 use gathering::Gathered;
@@ -48,12 +48,13 @@ fn finish_one(
     }
 }
 
-// From the keys on: stretches in order, room, memory, patch.
+// From the keys on: stretches in order, verdict 12, room, memory, patch. One stretch of doublewords shares no byte.
 fn finish(
     keys: &[u32],
     n: usize,
     step: usize,
     size: usize,
+    strict: bool,
     stored: &[u8],
     base: u64,
     memory: &mut [u8],
@@ -63,13 +64,22 @@ fn finish(
     ensures { λ r.
         ⌜ ((es : List Element)
         → Ready base (length (now (memory .entry))) step size (now (stored .entry)) (now (keys .entry)) n es
-        → StoredOf base size (now (memory .entry)) (now (patch .entry)) es r (now (memory .exit)) (now (patch .exit))) ⌝ }
+        → StoredUnder strict base size (now (memory .entry)) (now (patch .entry)) es r (now (memory .exit)) (now (patch .exit))) ⌝ }
 {
     if (size == 8) & stretches::is_one(keys, n, 8) {
         return finish_one(keys, n, stored, base, memory, patch);
     }
     let mut stretches = [0u32; 64];
     let m = stretches::join_in_order(keys, n, size, &mut stretches);
+    if overlapping::overlaps(strict, &stretches, m) {
+        let k = overlapping::lowest(keys, n);
+        return Verdict::Refused {
+            refusal: Refusal::Overlap {
+                element: (k % 256) as u64,
+                address: base + stretches::start_of(k) as u64,
+            },
+        };
+    }
     if !stretches::has_room(&stretches, m, n * size, patch.len()) {
         return Verdict::Refused {
             refusal: Refusal::NoRoom,
@@ -89,6 +99,7 @@ fn finish(
 pub fn store_vector(
     v: VectorAccess,
     vb: usize,
+    strict: bool,
     z: &[u8],
     p: &[u8],
     base: u64,
@@ -99,8 +110,8 @@ pub fn store_vector(
     requires { ⌜ Sound vb (now z) (now p) ⌝ }
     requires { ⌜ windowOk base (length (now memory)) ≡ true ⌝ }
     ensures { λ r.
-        ⌜ StoredOf base (v .size) (now (memory .entry)) (now (patch .entry)) (vectorsIn v vb (now (z .entry)) (now (p .entry))) r
-        (now (memory .exit)) (now (patch .exit)) ⌝ }
+        ⌜ StoredUnder strict base (v .size) (now (memory .entry)) (now (patch .entry)) (vectorsIn v vb (now (z .entry)) (now (p .entry)))
+        r (now (memory .exit)) (now (patch .exit)) ⌝ }
 {
     let offsets = elements::register_of(z, vb, v.offsets);
     let governing = elements::register_of(p, vb / 8, v.governing);
@@ -113,6 +124,16 @@ pub fn store_vector(
                 refusal: Refusal::Fault { element, address },
             }
         }
-        Gathered::Keys { n } => finish(&keys, n, v.step, v.size, stored, base, memory, patch),
+        Gathered::Keys { n } => finish(
+            &keys,
+            n,
+            v.step,
+            v.size,
+            strict,
+            stored,
+            base,
+            memory,
+            patch,
+        ),
     }
 }

@@ -8,7 +8,7 @@ use lib.Dec.{eqb}
 use borrow.Author.Tests.{eqb-true, eqb-false, eq-eqb}
 use Rattle.endian.proofs.Order.{absurdly, both}
 use Rattle.verdicts.specs.Verdicts.{Row, decided, number}
-use Rattle.verdicts.specs.Statements.{Given, NoneGiven, Decides, before, Numbered}
+use Rattle.verdicts.specs.Statements.{Given, NoneGiven, Decides, before, without, Numbered}
 use Rattle.verdicts.specs.declared.Verdict.{Verdict}
 use Rattle.verdicts.specs.declared.Verdict.the-variants.{Refused}
 
@@ -153,3 +153,33 @@ none-joined n (r ∷ rs) h k = go (eqb (r .number) n) h k (none-joined n rs)
         → (NoneGiven (before n rs) → NoneGiven (from n rs) → NoneGiven rs) → NoneGiven (r ∷ rs)
     go true h k f = k
     go false h k f = (h .0, f (h .1) k)
+
+-- ---- a line taken out
+
+-- where it isn't given
+pub without-undue : (n : ℕ) (rs : List Row) (done : Verdict) → (Given n rs → ⊥) → decided rs done ≡ decided (without n rs) done
+unfolding decided
+without-undue n [] done h = refl
+without-undue n (r ∷ rs) done h = go (eqb (r .number) n) refl (r .given) refl (without-undue n rs done (λ g. h (inr g)))
+  where
+    go : (t : Bool) → eqb (r .number) n ≡ t → (b : Bool) → r .given ≡ b → decided rs done ≡ decided (without n rs) done
+        → cond b (Refused (r .returned)) (decided rs done) ≡ decided (cond t (without n rs) (r ∷ without n rs)) done
+    go true q true g e = absurd (h (inl (eqb-true (r .number) n q, g)))
+    go true q false g e = e
+    go false q b g e = (λ i. cond (sym g i) (Refused (r .returned)) (e i))
+
+-- where it doesn't decide
+pub without-undecided : (n : ℕ) (rs : List Row) (done : Verdict) → Numbered rs → (number (decided rs done) ≡ n → ⊥)
+    → decided rs done ≡ decided (without n rs) done
+unfolding decided
+without-undecided n [] done u h = refl
+without-undecided n (r ∷ rs) done u h = go (eqb (r .number) n) refl (r .given) refl h (without-undecided n rs done (u .1))
+  where
+    go : (t : Bool) → eqb (r .number) n ≡ t → (b : Bool) → r .given ≡ b
+        → (number (cond b (Refused (r .returned)) (decided rs done)) ≡ n → ⊥)
+        → ((number (decided rs done) ≡ n → ⊥) → decided rs done ≡ decided (without n rs) done)
+        → cond b (Refused (r .returned)) (decided rs done) ≡ decided (cond t (without n rs) (r ∷ without n rs)) done
+    go true q true g k e = absurd (k (u .0 .same ∙ eqb-true (r .number) n q))
+    go true q false g k e = e k
+    go false q true g k e = (λ i. cond (sym g i) (Refused (r .returned)) (decided (without n rs) done))
+    go false q false g k e = e k ∙ (λ i. cond (sym g i) (Refused (r .returned)) (decided (without n rs) done))

@@ -8,15 +8,15 @@ use native.Mathlib.Omega.{arith}
 use borrow.Author.Tests.{ltb-true, lt-ltb}
 use lib.ListN.{length}
 use Rattle.encoding.specs.declared.Decoded.{Decoded}
-use Rattle.writes.specs.Elements.{Element}
+use Rattle.writes.specs.Elements.{Element, firstOverlap}
 use Rattle.elements.specs.Machine.{Machine}
-use Rattle.verdicts.specs.Verdicts.{elementsFor, patchOf, firstOutside, faultOf, row, table, refusalNumber, number}
+use Rattle.verdicts.specs.Verdicts.{elementsFor, patchOf, firstOutside, faultOf, overlapOf, row, table, refusalNumber, number}
 use Rattle.verdicts.specs.Statements.{Given, Numbers, FirstGivenDecides, TableNumbered, TableInOrder, TableGivenWhen}
 use Rattle.verdicts.specs.declared.Flags.{Flags}
 use Rattle.verdicts.specs.declared.Refusal.{Refusal}
 use Rattle.verdicts.proofs.Rows.{none-done, done-none, number-decides, decides-number, givenAt, given-is}
 use Rattle.verdicts.proofs.Words.{length-given, registers-given, window-given}
-use Rattle.verdicts.proofs.Words.{undefined-given, illegal-given, stack-given, fault-given}
+use Rattle.verdicts.proofs.Words.{undefined-given, illegal-given, stack-given, fault-given, overlap-given}
 
 pub first-given-decides : FirstGivenDecides
 first-given-decides rs done u zero = (
@@ -35,13 +35,18 @@ fault-number : (W L : ℕ) (o : Option Element) → refusalNumber (faultOf W L o
 fault-number W L none = refl
 fault-number W L (some x) = refl
 
+overlap-number : (o : Option Element) → refusalNumber (overlapOf o) ≡ 12
+overlap-number none = refl
+overlap-number (some x) = refl
+
 line : {n : ℕ} {c : Bool} {x : Refusal} → refusalNumber x ≡ suc n → Numbers (row (suc n) c x)
 line e = record { same = e; some = λ q. omega arith }
 
 pub table-numbered : TableNumbered
 table-numbered f m W L d room =
     let fault = line (fault-number W L (firstOutside W L (elementsFor m d))) in
-    (line refl, (line refl, (line refl, (line refl, (line refl, (line refl, (fault, (line refl, tt))))))))
+    let overlap = line (overlap-number (firstOverlap (elementsFor m d))) in
+    (line refl, (line refl, (line refl, (line refl, (line refl, (line refl, (fault, (overlap, (line refl, tt)))))))))
 
 pub table-in-order : TableInOrder
 table-in-order f m W L d room = refl
@@ -63,5 +68,6 @@ table-given-when f m W L d room =
       illegal = line 5 then illegal-given f d;
       stack = line 6 then stack-given f m d;
       fault = line 7 then fault-given W L (elementsFor m d);
+      overlap = line 12 then overlap-given f (elementsFor m d);
       no-room = line 8 then (ltb-true room k, lt-ltb room k);
     }

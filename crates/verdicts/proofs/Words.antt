@@ -3,7 +3,7 @@ use mathlib.Core.Path.{_≡_, refl, sym, ap, subst}
 use mathlib.Core.Bool.{Bool, true, false, not, cond, _&&_, _||_}
 use mathlib.Core.List.{List, [], _∷_}
 use mathlib.Core.Logic.{_↔_, _⊎_, inl, inr, ⊎-elim}
-use mathlib.Core.Option.{some}
+use mathlib.Core.Option.{Option, none, some}
 use Prim.Native.Nat.{ℕ, _+_, _*_, _/_, _%_, _^_, _<_}
 use native.Mathlib.Omega.{arith}
 use borrow.Author.Tests.{eqb-true, eq-eqb, leb-true, le-leb}
@@ -13,16 +13,18 @@ use Rattle.encoding.specs.declared.Decoded.{Decoded}
 use Rattle.encoding.specs.declared.Decoded.the-variants as D
 use Rattle.encoding.specs.declared.Store.the-variants.{Scatter, Strided, Quadword}
 use Rattle.encoding.proofs.Statements.{one-of}
-use Rattle.writes.specs.Elements.{Element, InWindow}
+use Rattle.writes.specs.Elements.{Element, InWindow, shareByte, sharesWith, overlapFrom, firstOverlap}
+use Rattle.writes.proofs.Sharing.{or-true, or-one, common-true, true-common}
 use Rattle.window.specs.Window.{windowOk, inWindow}
 use Rattle.endian.proofs.Order.{two, absurdly, not-both, both, told}
 use Rattle.window.proofs.Windows.{window-true, window-false, in-window-inv}
 use Rattle.elements.specs.Machine.{Machine}
 use Rattle.elements.specs.Elements.{elements}
 use Rattle.verdicts.specs.Verdicts.{elementsFor, oneOfFive, lengthOk, registersOk, undefined, illegalFor, someActive, stackFor}
-use Rattle.verdicts.specs.Verdicts.{firstOutside, found}
+use Rattle.verdicts.specs.Verdicts.{firstOutside, found, overlap}
 use Rattle.verdicts.specs.Statements.{Listed, here, there, OneOfFive, AnyMultiple, AllowedLength}
 use Rattle.verdicts.specs.Statements.{NoClassOrOff, NotInThisMode, BasedOnSp}
+use Rattle.verdicts.specs.Statements.{StandsBefore, first, later, Writes, TwoShare}
 use Rattle.verdicts.specs.declared.Flags.{Flags}
 
 -- ---- tests
@@ -204,3 +206,88 @@ module _ (W L : ℕ) where
 pub fault-given : (W L : ℕ) (es : List Element)
     → (found (firstOutside W L es) ≡ true) ↔ ((x : Element) × Listed x es × (inWindow W L (x .address) (length (x .bytes)) ≡ false))
 fault-given W L es = (found-outside W L es, (λ o. outside-found W L es (o .0) (o .1) (o .2)))
+
+-- ---- 12
+
+-- an address that both write
+abbrev pub Shared : Element → Element → Type 0
+Shared y x = (a : ℕ) × Writes y a × Writes x a
+
+shared-true : (y x : Element) → Shared y x → shareByte x y ≡ true
+shared-true y x c =
+    common-true y (x .address) (length (x .bytes))
+    (record { at = c .0; low = c .2 .0; high = c .2 .1; from = c .1 .0; upto = c .1 .1 })
+
+true-shared : (y x : Element) → shareByte x y ≡ true → Shared y x
+true-shared y x e =
+    let c = true-common y (x .address) (length (x .bytes)) e in
+    (c .at, (c .from, c .upto), (c .low, c .high))
+
+-- with one of the lower elements
+pub with-true : (x y : Element) (ys : List Element) → Listed y ys → Shared y x → sharesWith x ys ≡ true
+unfolding sharesWith
+with-true x y (z ∷ ys) here c = ap (λ (b : Bool). b || sharesWith x ys) (shared-true y x c)
+with-true x y (z ∷ ys) (there l) c = or-true (shareByte x z) (sharesWith x ys) (with-true x y ys l c)
+
+pub true-with : (x : Element) (ys : List Element) → sharesWith x ys ≡ true → (y : Element) × Listed y ys × Shared y x
+unfolding sharesWith
+true-with x [] e = absurdly cc
+true-with x (y ∷ ys) e = go (or-one (shareByte x y) (sharesWith x ys) e) (true-with x ys)
+  where
+    go : (shareByte x y ≡ true) ⊎ (sharesWith x ys ≡ true) → (sharesWith x ys ≡ true → (z : Element) × Listed z ys × Shared z x)
+        → (z : Element) × Listed z (y ∷ ys) × Shared z x
+    go (inl h) rest = (y, here, true-shared y x h)
+    go (inr h) rest = let r = rest h in (r .0, there (r .1), r .2)
+
+-- one of the elements shares a byte with one that stands before it, or with one of those that are lower than all
+abbrev SomeShare : List Element → List Element → Type 0
+SomeShare lower es = TwoShare es ⊎ ((y : Element) × (x : Element) × Listed y lower × Listed x es × Shared y x)
+
+found-share : (lower es : List Element) → found (overlapFrom lower es) ≡ true → SomeShare lower es
+unfolding overlapFrom
+found-share lower [] e = absurdly cc
+found-share lower (x ∷ xs) e = go (sharesWith x lower) refl e (found-share (x ∷ lower) xs)
+  where
+    moved : SomeShare (x ∷ lower) xs → SomeShare lower (x ∷ xs)
+    moved (inl (y, z, b, c)) = inl (y, z, later b, c)
+    moved (inr (y, z, here, l, c)) = inl (x, z, first l, c)
+    moved (inr (y, z, there k, l, c)) = inr (y, z, k, there l, c)
+
+    go : (b : Bool) → sharesWith x lower ≡ b → found (cond b (some x) (overlapFrom (x ∷ lower) xs)) ≡ true
+        → (found (overlapFrom (x ∷ lower) xs) ≡ true → SomeShare (x ∷ lower) xs) → SomeShare lower (x ∷ xs)
+    go true q e rest = let r = true-with x lower q in inr (r .0, x, r .1, here, r .2)
+    go false q e rest = moved (rest e)
+
+-- one behind the first, or the first itself
+behind : (z : Element) (lower xs : List Element) → found (overlapFrom (z ∷ lower) xs) ≡ true → found (overlapFrom lower (z ∷ xs)) ≡ true
+unfolding overlapFrom
+behind z lower xs e = go (sharesWith z lower)
+  where
+    go : (b : Bool) → found (cond b (some z) (overlapFrom (z ∷ lower) xs)) ≡ true
+    go true = refl
+    go false = e
+
+lower-found : (lower es : List Element) (y x : Element) → Listed y lower → Listed x es → Shared y x
+    → found (overlapFrom lower es) ≡ true
+unfolding overlapFrom
+lower-found lower (z ∷ xs) y x l here c =
+    ap (λ (b : Bool). found (cond b (some z) (overlapFrom (z ∷ lower) xs))) (with-true x y lower l c)
+lower-found lower (z ∷ xs) y x l (there k) c = behind z lower xs (lower-found (z ∷ lower) xs y x (there l) k c)
+
+share-found : (lower es : List Element) (y x : Element) → StandsBefore y x es → Shared y x → found (overlapFrom lower es) ≡ true
+unfolding overlapFrom
+share-found lower (z ∷ xs) y x (first l) c = behind z lower xs (lower-found (z ∷ lower) xs y x here l c)
+share-found lower (z ∷ xs) y x (later b) c = behind z lower xs (share-found (z ∷ lower) xs y x b c)
+
+pub overlap-given : (f : Flags) (es : List Element) → (overlap f es ≡ true) ↔ ((f .strict ≡ true) × TwoShare es)
+overlap-given f es = (
+  (λ e. let b = both (f .strict) (found (firstOverlap es)) e in (b .0, none-lower (found-share [] es (b .1)))),
+  (λ h. let s = h .1 in two-true (f .strict) (found (firstOverlap es)) (h .0) (share-found [] es (s .0) (s .1) (s .2) (s .3))),
+)
+  where
+    none-lower : SomeShare [] es → TwoShare es
+    none-lower (inl t) = t
+    none-lower (inr (y, x, l, k, c)) = none-listed y [] refl l
+
+    two-true : (a b : Bool) → a ≡ true → b ≡ true → a && b ≡ true
+    two-true a b p q = cc

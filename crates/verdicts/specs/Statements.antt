@@ -38,6 +38,11 @@ abbrev pub before : ℕ → List Row → List Row
 before n [] = []
 before n (r ∷ rs) = cond (eqb (r .number) n) [] (r ∷ before n rs)
 
+-- the lines but that of number n
+abbrev pub without : ℕ → List Row → List Row
+without n [] = []
+without n (r ∷ rs) = cond (eqb (r .number) n) (without n rs) (r ∷ without n rs)
+
 -- a line's number is that of what it returns, and isn't done's
 pub record Numbers (r : Row) : Type 0 where
   pub same : refusalNumber (r .returned) ≡ r .number
@@ -60,11 +65,11 @@ FirstGivenDecides =
 abbrev pub TableNumbered : Type 0
 TableNumbered = (f : Flags) (m : Machine) (W L : ℕ) (d : Decoded) (room : ℕ) → Numbered (table f m W L d room)
 
--- document 02 (ix): "checks 1 to 7, 12 and 8 in that order"; 12 comes with its own request
+-- document 02 (ix): "checks 1 to 7, 12 and 8 in that order"
 abbrev pub TableInOrder : Type 0
 TableInOrder =
     (f : Flags) (m : Machine) (W L : ℕ) (d : Decoded) (room : ℕ)
-    → map (λ (r : Row). r .number) (table f m W L d room) ≡ 1 ∷ 2 ∷ 3 ∷ 4 ∷ 5 ∷ 6 ∷ 7 ∷ 8 ∷ []
+    → map (λ (r : Row). r .number) (table f m W L d room) ≡ 1 ∷ 2 ∷ 3 ∷ 4 ∷ 5 ∷ 6 ∷ 7 ∷ 12 ∷ 8 ∷ []
 
 -- ---- its column "Given exactly when", line by line
 
@@ -72,6 +77,19 @@ TableInOrder =
 pub data Listed (x : Element) : List Element → Type 0 where
   here : {xs : List Element} → Listed x (x ∷ xs)
   there : {y : Element} {xs : List Element} → Listed x xs → Listed x (y ∷ xs)
+
+-- x is one of the list, and y stands before it
+pub data StandsBefore (y x : Element) : List Element → Type 0 where
+  first : {xs : List Element} → Listed x xs → StandsBefore y x (y ∷ xs)
+  later : {z : Element} {xs : List Element} → StandsBefore y x xs → StandsBefore y x (z ∷ xs)
+
+-- an address that an element writes
+abbrev pub Writes : Element → ℕ → Type 0
+Writes x a = (x .address ≤ a) × (a < x .address + length (x .bytes))
+
+-- "two different active elements share a byte", of the list of the active ones: two of its places, and an address that both write
+abbrev pub TwoShare : List Element → Type 0
+TwoShare es = (y : Element) × (x : Element) × StandsBefore y x es × ((a : ℕ) × Writes y a × Writes x a)
 
 -- "VB, the vector length in bytes: 16, 32, 64, 128 or 256"
 abbrev pub OneOfFive : ℕ → Type 0
@@ -129,6 +147,8 @@ pub record GivenWhen (f : Flags) (m : Machine) (W L : ℕ) (d : Decoded) (room :
   -- "some active element has a byte outside the window", that is, doesn't lie in it
   pub fault : Given 7 (table f m W L d room)
       ↔ ((x : Element) × Listed x (elementsFor m d) × (inWindow W L (x .address) (length (x .bytes)) ≡ false))
+  -- "With it on, verdict 12 is given exactly when two different active elements share a byte" (document 02 (viii))
+  pub overlap : Given 12 (table f m W L d room) ↔ ((f .strict ≡ true) × TwoShare (elementsFor m d))
   -- "patch buffer shorter than the patch"
   pub no-room : Given 8 (table f m W L d room) ↔ (room < length (patchOf (elementsFor m d)))
 

@@ -1,5 +1,5 @@
--- Document 01, 'Verdicts, in the order they are checked', 1 to 8, for the merged call of document 02 (ix): "one call checks 1 to 7, 12 and
--- 8 in that order". 'Verdict' is document 01's term for what a call answers. Assumes nothing.
+-- Document 01, 'Verdicts, in the order they are checked', 1 to 8, and document 02 (viii)'s 12, for the merged call of document 02 (ix):
+-- "one call checks 1 to 7, 12 and 8 in that order". 'Verdict' is document 01's term for what a call answers. Assumes nothing.
 use Prim.Native.Nat.{ℕ, _*_, _%_}
 use mathlib.Core.Bool.{Bool, true, false, not, cond, _&&_, _||_}
 use mathlib.Core.List.{List, [], _∷_}
@@ -15,14 +15,14 @@ use Rattle.encoding.specs.declared.Decoded.the-variants as D
 use Rattle.encoding.specs.declared.Store.{Store}
 use Rattle.encoding.specs.declared.Store.the-variants.{Scatter, Strided, Quadword}
 use Rattle.writes.specs.Encoding.{encode}
-use Rattle.writes.specs.Elements.{Element, netEffect, stepsOf}
+use Rattle.writes.specs.Elements.{Element, netEffect, stepsOf, firstOverlap}
 use Rattle.window.specs.Window.{windowOk, inWindow, byteOutside}
 use Rattle.elements.specs.Machine.{Machine}
 use Rattle.elements.specs.Stores.{sizeOf}
 use Rattle.elements.specs.Elements.{elements}
 use Rattle.verdicts.specs.declared.Flags.{Flags}
 use Rattle.verdicts.specs.declared.Refusal.{Refusal}
-use Rattle.verdicts.specs.declared.Refusal.the-variants.{Length, Registers, Window, Undefined, Illegal, Stack, Fault, NoRoom}
+use Rattle.verdicts.specs.declared.Refusal.the-variants.{Length, Registers, Window, Undefined, Illegal, Stack, Fault, Overlap, NoRoom}
 use Rattle.verdicts.specs.declared.Verdict.{Verdict}
 use Rattle.verdicts.specs.declared.Verdict.the-variants.{Done, Refused}
 
@@ -111,6 +111,15 @@ abbrev pub faultOf : ℕ → ℕ → Option Element → Refusal
 faultOf W L none = Fault 0 0
 faultOf W L (some x) = Fault (x .number) (byteOutside W L (x .address) (length (x .bytes)))
 
+-- 12 overlap, document 02 (viii): "With it on, verdict 12 is given exactly when two different active elements share a byte, and returns the
+-- lowest active element that shares one with a lower active element, and its first address."
+abbrev pub overlap : Flags → List Element → Bool
+overlap f es = f .strict && found (firstOverlap es)
+
+abbrev pub overlapOf : Option Element → Refusal
+overlapOf none = Overlap 0 0
+overlapOf (some x) = Overlap (x .number) (x .address)
+
 -- ---- the table
 
 -- a line of the table: its number, when it is given, and what is returned
@@ -123,7 +132,7 @@ abbrev pub row : ℕ → Bool → Refusal → Row
 row n c r = record { number = n; given = c; returned = r }
 
 -- document 01's table, line by line, on flags and machine, for a window of L bytes at W, what the word decodes to, and a patch buffer of
--- `room` bytes
+-- `room` bytes; 12 "stands after 7 and before 8" (document 02 (viii))
 abbrev pub table : Flags → Machine → ℕ → ℕ → Decoded → ℕ → List Row
 table f m W L d room =
     row 1 (not (lengthOk (f .early) (f .streaming) (m .vb))) Length
@@ -133,6 +142,7 @@ table f m W L d room =
     ∷ row 5 (illegalFor f d) Illegal
     ∷ row 6 (stackFor f m d) Stack
     ∷ row 7 (found (firstOutside W L (elementsFor m d))) (faultOf W L (firstOutside W L (elementsFor m d)))
+    ∷ row 12 (overlap f (elementsFor m d)) (overlapOf (firstOverlap (elementsFor m d)))
     ∷ row 8 (ltb room (length (patchOf (elementsFor m d)))) NoRoom
     ∷ []
 
@@ -161,6 +171,7 @@ refusalNumber Undefined = 4
 refusalNumber Illegal = 5
 refusalNumber Stack = 6
 refusalNumber (Fault e a) = 7
+refusalNumber (Overlap e a) = 12
 refusalNumber NoRoom = 8
 
 -- "Done is number 0"
@@ -168,7 +179,7 @@ abbrev pub number : Verdict → ℕ
 number (Done n b k s) = 0
 number (Refused r) = refusalNumber r
 
--- element and address of a refusal's detail: zeros but for 7
+-- element and address of a refusal's detail: zeros but for 7 and 12
 abbrev pub detail : Refusal → List ℕ
 detail Length = 0 ∷ 0 ∷ []
 detail Registers = 0 ∷ 0 ∷ []
@@ -177,4 +188,5 @@ detail Undefined = 0 ∷ 0 ∷ []
 detail Illegal = 0 ∷ 0 ∷ []
 detail Stack = 0 ∷ 0 ∷ []
 detail (Fault e a) = e ∷ a ∷ []
+detail (Overlap e a) = e ∷ a ∷ []
 detail NoRoom = 0 ∷ 0 ∷ []

@@ -13,6 +13,7 @@ use crate::{numbers, verdicts};
 use starshackle::{
     element, Element, Machine, Refusal, Stored, Verdict, Window, LARGEST_STORE_PATCH,
 };
+use std::ops::Range;
 
 pub const COMMAND: Command = Command {
     name: "run",
@@ -28,10 +29,13 @@ The counts: active elements, bytes moved, and steps, which are the active elemen
 where the active one before them ends.
 A fault (verdict 7) names the lowest active element with a byte outside the window, and the address,
 modulo 2^64, of the first of its bytes that isn't in the window. That byte is shown in ( ).
+With the flag strict a store of which two active elements share a byte is refused (verdict 12). The
+verdict names the lowest active element that shares one with a lower active element, and its first
+address. The bytes that it shares with the lowest of these are shown in ( ), in both.
 All this is the proved model's answer. The assembly text, the note about registers that aren't
 given, the note that says which rule refused vb (verdict 1), the notes that say how the counter of a
-strided store is read, and so why an element is active, and the note that numbers the byte in ( ),
-are not proved.
+strided store is read, and so why an element is active, and the notes that say what is in ( ), are
+not proved.
 A counter is the low 16 bits of its register. The lowest set one of its bits 0 to 3 is its element
 size, 8 to 64 bits; without one nothing is active. The bits above that one, up to bit log2(4 VB),
 which is 6 at VB 16 and 10 at VB 256, are the count: so many elements of that size, from the first
@@ -48,7 +52,8 @@ streaming, allowed, which are the lengths that the rule allows), not_given (the 
 counter_means (the notes about the counter: register, value, element_size, store_element_size,
 every, which is 2 where every second element of the store starts one of the counter's, count,
 inverted, highest_bit, ignored, which are the bits that are set and ignored), detail (of a fault:
-element, and address, which is that of its first byte outside the window, modulo 2^64),
+element, and address, which is that of its first byte outside the window, modulo 2^64; of an
+overlap: element, and its first address), shares_with (a note on an overlap: the lower element),
 active_elements, bytes_moved, steps, elements (each with element, active, address, which is that of
 its first byte, bytes), window (address, length, memory). They are null where there is nothing to
 say. What has \"proved\": false in it is not proved.
@@ -90,6 +95,12 @@ struct Answer {
 struct Row {
     element: Element,
     bytes: Vec<u8>,
+}
+
+/// Bytes of an element that stand out, and why.
+struct Mark {
+    bytes: Range<usize>,
+    name: &'static str,
 }
 
 impl Answer {
@@ -138,18 +149,42 @@ impl Answer {
         if self.elements.is_empty() {
             return None;
         }
-        let (fault, mut text) = (self.fault(), String::new());
+        let (fault, overlap, mut text) = (self.fault(), self.overlap(), String::new());
         text += "element  state     address             bytes\n";
         for (number, row) in self.elements.iter().enumerate() {
-            let byte = fault.filter(|(element, _)| *element == number).map(|(_, byte)| byte);
-            text += &row.text(number, byte);
+            text += &row.text(number, self.mark(number, fault, overlap));
         }
         text += &self.counter.as_ref().map_or(String::new(), Counter::text);
         if let Some((number, byte)) = fault {
             let byte = format!("byte {byte} of element {number}, its first outside the window");
             text += &format!("  note (not proved): in ( ) is {byte}\n");
         }
+        if let Some((lower, number)) = overlap {
+            let bytes = format!("the bytes that elements {lower} and {number} share");
+            text += &format!("  note (not proved): in ( ) are {bytes}\n");
+        }
         Some(text)
+    }
+
+    /// What stands out in an element's line.
+    fn mark(
+        &self,
+        number: usize,
+        fault: Option<(usize, usize)>,
+        overlap: Option<(usize, usize)>,
+    ) -> Option<Mark> {
+        match (fault, overlap) {
+            (Some((element, byte)), _) if element == number => {
+                Some(Mark { bytes: byte..byte + 1, name: "fault" })
+            }
+            (_, Some((lower, element))) if element == number => {
+                Some(Mark { bytes: self.shared(element, lower), name: "overlap" })
+            }
+            (_, Some((lower, element))) if lower == number => {
+                Some(Mark { bytes: self.shared(lower, element), name: "overlap (not proved)" })
+            }
+            _ => None,
+        }
     }
 
     /// The element that faults, and which of its bytes has the address that the fault names. That
@@ -163,9 +198,34 @@ impl Answer {
         Some((number, address.wrapping_sub(first) as usize))
     }
 
+    /// The element that a refusal with 12 names, behind the lowest active one with which it shares a
+    /// byte. That explains the answer and is no part of it.
+    fn overlap(&self) -> Option<(usize, usize)> {
+        let number = match self.outcome {
+            Err(Refusal::Overlap { element, .. }) => element as usize,
+            _ => return None,
+        };
+        let shares = |lower: &usize| !self.shared(number, *lower).is_empty();
+        let mut lower = (0..number).filter(|lower| self.elements[*lower].element.active);
+        lower.find(shares).map(|lower| (lower, number))
+    }
+
+    /// The bytes of one element that another writes too. Both lie in the window.
+    fn shared(&self, number: usize, other: usize) -> Range<usize> {
+        let place = |number: usize| {
+            let Element { address, bytes, .. } = self.elements[number].element;
+            let start = address.wrapping_sub(self.base) as usize;
+            start..start + bytes as usize
+        };
+        let (one, other) = (place(number), place(other));
+        let start = one.start.max(other.start) - one.start;
+        let end = one.end.min(other.end).saturating_sub(one.start);
+        start..end
+    }
+
     /// Whether the store's elements were held to the window, and it wasn't refused before.
     fn reached_window(&self) -> bool {
-        matches!(self.outcome, Ok(_) | Err(Refusal::Fault { .. }))
+        matches!(self.outcome, Ok(_) | Err(Refusal::Fault { .. } | Refusal::Overlap { .. }))
     }
 
     fn window_text(&self) -> Option<String> {
@@ -201,9 +261,16 @@ impl Answer {
         members.push(("not_given", self.missing.json()));
         members.push(("counter_means", self.counter.as_ref().map(Counter::json).into()));
         members.extend(verdicts::store_members(&self.outcome));
+        members.push(("shares_with", self.shares_with().into()));
         let rows = self.elements.iter().enumerate().map(|(number, row)| row.json(number));
         members.extend([("elements", Json::List(rows.collect())), ("window", self.window_json())]);
         Json::Object(members)
+    }
+
+    /// The lower of the two elements that share a byte.
+    fn shares_with(&self) -> Option<Json> {
+        let (lower, _) = self.overlap()?;
+        Some(Json::Object(vec![("element", (lower as u64).into()), ("proved", false.into())]))
     }
 
     fn window_json(&self) -> Json {
@@ -228,14 +295,15 @@ impl Row {
         Row { element, bytes: bytes.copied().collect() }
     }
 
-    /// Its line in the table, where it faults with this byte in brackets.
-    fn text(&self, number: usize, fault: Option<usize>) -> String {
+    /// Its line in the table, with the mark's bytes in brackets.
+    fn text(&self, number: usize, mark: Option<Mark>) -> String {
         let state = if self.element.active { "active" } else { "inactive" };
         let address = numbers::address(self.element.address);
-        let marked: Vec<bool> = (0..self.bytes.len()).map(|byte| fault == Some(byte)).collect();
+        let marked = mark.as_ref().map_or(0..0, |mark| mark.bytes.clone());
+        let marked: Vec<bool> = (0..self.bytes.len()).map(|byte| marked.contains(&byte)).collect();
         let bytes = line(&self.bytes, &marked, ["(", ")"]);
-        let mark = fault.map_or("", |_| "  <- fault");
-        format!("{number:>7}  {state:<8}  {address} {bytes}{mark}\n")
+        let name = mark.map_or(String::new(), |mark| format!("  <- {}", mark.name));
+        format!("{number:>7}  {state:<8}  {address} {bytes}{name}\n")
     }
 
     fn json(&self, number: usize) -> Json {

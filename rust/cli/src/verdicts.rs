@@ -24,6 +24,10 @@ fn detail_text(refusal: &Refusal) -> Option<String> {
         Refusal::Fault { .. } => {
             format!("  {what} {number}, first byte outside the window at {address}\n")
         }
+        Refusal::Overlap { .. } => {
+            let lowest = "the lowest that shares a byte with a lower one";
+            format!("  {what} {number} at {address}, {lowest}\n")
+        }
         _ => format!("  {what} {number} at {address}\n"),
     })
 }
@@ -38,6 +42,7 @@ pub fn counts(stored: &Stored) -> String {
 fn detail(refusal: &Refusal) -> Option<(&'static str, u64, u64)> {
     match *refusal {
         Refusal::Fault { element, address } => Some(("element", element, address)),
+        Refusal::Overlap { element, address } => Some(("element", element, address)),
         Refusal::Outside { run, address } => Some(("run", run, address)),
         _ => None,
     }
@@ -85,6 +90,10 @@ mod tests {
         let fault = shown(Refusal::Fault { element: 2, address: 0x1005 });
         let byte = "\n  element 2, first byte outside the window at 0x0000000000001005\n";
         assert!(fault.ends_with(&format!("{byte}  nothing was written\n")));
+        let overlap = shown(Refusal::Overlap { element: 2, address: 0x1005 });
+        let lowest =
+            "\n  element 2 at 0x0000000000001005, the lowest that shares a byte with a lower one\n";
+        assert!(overlap.ends_with(&format!("{lowest}  nothing was written\n")));
         let outside = shown(Refusal::Outside { run: 2, address: 0x1005 });
         assert!(outside.ends_with("\n  run 2 at 0x0000000000001005\n  nothing was written\n"));
         assert_eq!(detail_json(&Err::<(), _>(Refusal::NoRoom)).to_string(), "null");

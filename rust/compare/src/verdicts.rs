@@ -12,3 +12,4 @@ pub const NO_ROOM: u64 = 8;
 pub const BAD_PATCH: u64 = 9;
 pub const OUTSIDE: u64 = 10;
 pub const BAD_FIELDS: u64 = 11;
+pub const OVERLAP: u64 = 12;

@@ -28,6 +28,8 @@ impl Flags {
     pub const SP_CHECK: Flags = Flags(1 << 5);
     /// SP is checked with no element active too.
     pub const SP_CHECK_NONE_ACTIVE: Flags = Flags(1 << 6);
+    /// A store of which two active elements share a byte is refused.
+    pub const STRICT: Flags = Flags(1 << 7);
 
     /// Whether all of the other's bits are set here.
     ///

@@ -20,6 +20,9 @@ pub struct Stored {
 /// lowest first, and the patch to the first bytes of `patch`, or nothing to either. Bytes behind
 /// the patch are as they came.
 ///
+/// With [`Flags::STRICT`](crate::Flags::STRICT) a store of which two active elements share a byte is
+/// refused with [`Refusal::Overlap`]; the flag changes no other answer.
+///
 /// Answer and patch don't depend on the window's bytes, and applying the patch there leaves what
 /// the store leaves. Who wants only the patch lends a scratch window, with anything in it; who wants
 /// only the memory lends a scratch buffer of [`LARGEST_STORE_PATCH`](crate::LARGEST_STORE_PATCH)

@@ -3,8 +3,8 @@
 use std::error::Error;
 use std::fmt::{self, Display, Formatter};
 
-/// A verdict by its number in document 01, in the order in which they are checked: a call answers
-/// the lowest that is due.
+/// A verdict by its number in the papers. They are checked in the order in which they stand here, in
+/// which [`Verdict::Overlap`] comes before [`Verdict::NoRoom`]: a call answers the first that is due.
 ///
 /// ```
 /// use starshackle::Verdict;
@@ -32,6 +32,8 @@ pub enum Verdict {
     Stack = 6,
     /// An active element has a byte outside the window.
     Fault = 7,
+    /// Two active elements share a byte, and the flag [`STRICT`](crate::Flags::STRICT) is on.
+    Overlap = 12,
     /// The buffer is shorter than the patch.
     NoRoom = 8,
     /// The bytes are not a patch.
@@ -50,8 +52,10 @@ const UNDEFINED: &str = "the word has no class, or its class needs a flag that i
 const ILLEGAL: &str = "classes 1 to 7 and 12 to 24 need streaming off or fa64 on, \
                        classes 8 to 11 and 25 to 36 need streaming on";
 
-/// By number: the verdict, its name, and when it is given.
-const VERDICTS: [(Verdict, &str, &str); 12] = [
+const OVERLAP: &str = "two active elements share a byte, and strict is on";
+
+/// In the order in which they are checked: the verdict, its name, and when it is given.
+const VERDICTS: [(Verdict, &str, &str); 13] = [
     (Verdict::Done, "done", ""),
     (Verdict::Length, "length", LENGTH),
     (Verdict::Registers, "registers", "the Z or P buffer has another size"),
@@ -64,6 +68,7 @@ const VERDICTS: [(Verdict, &str, &str); 12] = [
     (Verdict::Illegal, "illegal", ILLEGAL),
     (Verdict::Stack, "stack", "SP is the base, it is checked, and it isn't a multiple of 16"),
     (Verdict::Fault, "fault", "an active element has a byte outside the window"),
+    (Verdict::Overlap, "overlap", OVERLAP),
     (Verdict::NoRoom, "no room", "the buffer is shorter than the patch"),
     (Verdict::BadPatch, "bad patch", "the bytes are not a patch"),
     (Verdict::Outside, "outside", "a run isn't wholly in the window"),
@@ -77,10 +82,10 @@ impl Verdict {
     /// use starshackle::Verdict;
     ///
     /// assert_eq!(Verdict::numbered(8), Some(Verdict::NoRoom));
-    /// assert_eq!(Verdict::numbered(12), None);
+    /// assert_eq!(Verdict::numbered(13), None);
     /// ```
     pub fn numbered(number: u64) -> Option<Verdict> {
-        VERDICTS.get(usize::try_from(number).ok()?).map(|(verdict, ..)| *verdict)
+        VERDICTS.iter().map(|(verdict, ..)| *verdict).find(|verdict| verdict.number() == number)
     }
 
     /// The verdict of a call.
@@ -107,13 +112,13 @@ impl Verdict {
         self as u64
     }
 
-    /// Its name in document 01.
+    /// Its name.
     ///
     /// ```
     /// assert_eq!(starshackle::Verdict::NoRoom.name(), "no room");
     /// ```
     pub fn name(self) -> &'static str {
-        VERDICTS[self as usize].1
+        self.line().1
     }
 
     /// When it is given; nothing for [`Verdict::Done`].
@@ -122,7 +127,12 @@ impl Verdict {
     /// assert_eq!(starshackle::Verdict::Fields.cause(), "no word has these fields");
     /// ```
     pub fn cause(self) -> &'static str {
-        VERDICTS[self as usize].2
+        self.line().2
+    }
+
+    /// Its line of the table, which has one for each.
+    fn line(self) -> &'static (Verdict, &'static str, &'static str) {
+        VERDICTS.iter().find(|(verdict, ..)| *verdict == self).unwrap_or(&VERDICTS[0])
     }
 }
 
@@ -169,6 +179,13 @@ pub enum Refusal {
         /// in the window: the element's first address, or else the one behind the window.
         address: u64,
     },
+    /// [`Verdict::Overlap`].
+    Overlap {
+        /// The lowest active element that shares a byte with a lower active element.
+        element: u64,
+        /// Its first address.
+        address: u64,
+    },
     /// [`Verdict::NoRoom`].
     NoRoom,
     /// [`Verdict::BadPatch`].
@@ -196,6 +213,7 @@ impl Refusal {
             Some(Verdict::Illegal) => Refusal::Illegal,
             Some(Verdict::Stack) => Refusal::Stack,
             Some(Verdict::Fault) => Refusal::Fault { element: lowest, address },
+            Some(Verdict::Overlap) => Refusal::Overlap { element: lowest, address },
             Some(Verdict::NoRoom) => Refusal::NoRoom,
             Some(Verdict::BadPatch) => Refusal::BadPatch,
             Some(Verdict::Outside) => Refusal::Outside { run: lowest, address },
@@ -220,6 +238,7 @@ impl Refusal {
             Refusal::Illegal => Verdict::Illegal,
             Refusal::Stack => Verdict::Stack,
             Refusal::Fault { .. } => Verdict::Fault,
+            Refusal::Overlap { .. } => Verdict::Overlap,
             Refusal::NoRoom => Verdict::NoRoom,
             Refusal::BadPatch => Verdict::BadPatch,
             Refusal::Outside { .. } => Verdict::Outside,
@@ -236,6 +255,9 @@ impl Display for Refusal {
             Refusal::Fault { element, address } => {
                 write!(f, ": element {element}, first byte outside at {address:#018X}")
             }
+            Refusal::Overlap { element, address } => {
+                write!(f, ": element {element} at {address:#018X} and a lower one")
+            }
             Refusal::Outside { run, address } => write!(f, ": run {run} at {address:#018X}"),
             _ => Ok(()),
         }
@@ -250,11 +272,13 @@ mod tests {
 
     #[test]
     fn numbers() {
-        for (number, (verdict, name, cause)) in VERDICTS.iter().enumerate() {
-            assert_eq!(verdict.number(), number as u64);
-            assert_eq!(Verdict::numbered(number as u64), Some(*verdict));
+        let numbers: Vec<u64> = VERDICTS.iter().map(|(verdict, ..)| verdict.number()).collect();
+        assert_eq!(numbers, [0, 1, 2, 3, 4, 5, 6, 7, 12, 8, 9, 10, 11]);
+        for (verdict, name, cause) in &VERDICTS {
+            assert_eq!(Verdict::numbered(verdict.number()), Some(*verdict));
             assert_eq!((verdict.name(), verdict.cause()), (*name, *cause));
         }
+        assert_eq!(Verdict::numbered(13), None);
         assert_eq!(Verdict::numbered(u64::MAX), None);
     }
 
@@ -268,6 +292,9 @@ mod tests {
         assert_eq!(Refusal::answered(7, [1, 2]), fault);
         let byte = ": element 1, first byte outside at 0x0000000000000002";
         assert!(fault.to_string().ends_with(byte));
+        let overlap = Refusal::Overlap { element: 1, address: 2 };
+        assert_eq!(Refusal::answered(12, [1, 2]), overlap);
+        assert!(overlap.to_string().ends_with(": element 1 at 0x0000000000000002 and a lower one"));
         let outside = Refusal::Outside { run: 1, address: 2 };
         assert_eq!(Refusal::answered(10, [1, 2]), outside);
         assert!(outside.to_string().ends_with(": run 1 at 0x0000000000000002"));

@@ -5,7 +5,7 @@ use Prim.Native.Nat.{ℕ}
 use lib.ListN.{getD}
 use Rattle.verdicts.specs.Verdicts.{number, detail}
 use Rattle.verdicts.specs.declared.Refusal.{Refusal}
-use Rattle.verdicts.specs.declared.Refusal.the-variants.{Length, Registers, Window, Undefined, Illegal, Stack, Fault, NoRoom}
+use Rattle.verdicts.specs.declared.Refusal.the-variants.{Length, Registers, Window, Undefined, Illegal, Stack, Fault, Overlap, NoRoom}
 use Rattle.outcomes.specs.Storing.{numbers}
 use borrow.Author.Needs.{needs}
 use Rattle.numbers.proofs.answered.Statement.{statement}
@@ -23,6 +23,7 @@ six-of Undefined = refl
 six-of Illegal = refl
 six-of Stack = refl
 six-of (Fault e a) = refl
+six-of (Overlap e a) = refl
 six-of NoRoom = refl
 
 enum-known-v : tie.Need-enum-known-v

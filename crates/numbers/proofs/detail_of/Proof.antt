@@ -26,6 +26,9 @@ enum-told-6 c = search needs
 enum-known-r : tie.Need-enum-known-r
 enum-known-r c = search needs
 
+enum-known-r-2 : tie.Need-enum-known-r-2
+enum-known-r-2 c = search needs
+
 enum-told-7 : tie.Need-enum-told-7
 enum-told-7 c = search needs
 
@@ -51,7 +54,10 @@ returns-7 : tie.Need-returns-7
 returns-7 c = sym (ap detail (c .before .r .given .1))
 
 returns-8 : tie.Need-returns-8
-returns-8 c = search needs
+returns-8 c = sym (ap detail (c .before .r2 .given .1))
+
+returns-9 : tie.Need-returns-9
+returns-9 c = search needs
 
 pub detail-of-spec : {M : Type 1} → statement M
 detail-of-spec =
@@ -64,6 +70,7 @@ detail-of-spec =
     enum-told-5
     enum-told-6
     enum-known-r
+    enum-known-r-2
     enum-told-7
     returns
     returns-2
@@ -72,4 +79,5 @@ detail-of-spec =
     returns-5
     returns-6
     returns-7
-    returns-8)
+    returns-8
+    returns-9)

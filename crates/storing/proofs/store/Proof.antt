@@ -9,7 +9,8 @@ use Rattle.elements.specs.declared.StridedAccess.{StridedAccess}
 use Rattle.checks.specs.Checking.{vectorsIn, Passed}
 use Rattle.checks.specs.declared.Checked.the-variants as Ch
 use Rattle.checks.proofs.Checking.{refused-told, vector-told, strided-told}
-use Rattle.outcomes.proofs.Concluding.{stored-refused, stored-passed}
+use Rattle.accesses.proofs.Apart.{strided-no-overlap}
+use Rattle.outcomes.proofs.Concluding.{stored-refused, stored-passed, under-clear}
 use Rattle.storing.proofs.store.Statement.{statement}
 use Rattle.storing.proofs.store.Tie as tie
 
@@ -98,7 +99,8 @@ returns-3 c =
     let k = a .before .before in
     let g = st k .args in
     stored-passed (g .flags) (m k) (g .base) (g .memory .now) (g .word) (g .patch .now) _ _ _ _ _ (strided k _ (a .access2 .given .1) .1)
-    (w .store-strided .ensures)
+    (under-clear (g .flags .strict) (w .store-strided .ensures)
+    (strided-no-overlap _ (g .vb) (strided k _ (a .access2 .given .1) .0) (g .z .now)))
 
 pub store-spec : {M : Type 1} → statement M
 store-spec =

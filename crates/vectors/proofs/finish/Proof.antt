@@ -1,6 +1,7 @@
--- `finish` of a scatter or quadword store: stretches in order, room, memory, patch. Each step's facts go to the laws of Finishing.
--- Assumes nothing.
+-- `finish` of a scatter or quadword store: stretches in order, verdict 12, room, memory, patch. Each step's facts go to the laws of
+-- Finishing. Assumes nothing.
 use mathlib.Core.Path.{_≡_, sym, _∙_, subst}
+use mathlib.Core.Bool.{Bool, true, false, not, _&&_}
 use mathlib.Core.List.{List}
 use Prim.Native.Nat.{ℕ, _+_, _≤_}
 use native.Mathlib.Omega.{arith}
@@ -15,10 +16,12 @@ use Rattle.writes.specs.Elements.{Element}
 use Rattle.ordering.specs.Keys.{entries}
 use Rattle.stretches.specs.Intervals.{total}
 use Rattle.stretches.specs.Stretches.{joined, merged, Ordered}
+use Rattle.overlapping.specs.Overlaps.{parted, firstMeeting, isFound}
 use Rattle.verdicts.specs.declared.Verdict.{Verdict}
-use Rattle.outcomes.specs.Steps.{StoredOf}
+use Rattle.outcomes.specs.Steps.{StoredUnder}
 use Rattle.vectors.specs.Steps.{Ready}
 use Rattle.vectors.proofs.Finishing.{ready-sized, ready-placed, ready-distinct, ready-ordered, ready-sum, ready-short, ready-done}
+use Rattle.vectors.proofs.Finishing.{ready-address, ready-overlap, ready-parted, ready-under, one-under}
 use Rattle.vectors.proofs.finish.Statement.{statement}
 use Rattle.vectors.proofs.finish.Tie as tie
 
@@ -46,9 +49,9 @@ eights : (W L step size : ℕ) (stored A : List ℕ) (n : ℕ) (es : List Elemen
 eights W L step size stored A n es e R =
     subst (λ (k : ℕ). Ready W L 8 k stored A n es) e (subst (λ (k : ℕ). Ready W L k size stored A n es) (R .doubleword e) R)
 
-of-eights : (W size : ℕ) (mem out : List ℕ) (es : List Element) (v : Verdict) (mem′ out′ : List ℕ) → size ≡ 8
-    → StoredOf W 8 mem out es v mem′ out′ → StoredOf W size mem out es v mem′ out′
-of-eights W size mem out es v mem′ out′ e = subst (λ (k : ℕ). StoredOf W k mem out es v mem′ out′) (sym e)
+of-eights : (t : Bool) (W size : ℕ) (mem out : List ℕ) (es : List Element) (v : Verdict) (mem′ out′ : List ℕ) → size ≡ 8
+    → StoredUnder t W 8 mem out es v mem′ out′ → StoredUnder t W size mem out es v mem′ out′
+of-eights t W size mem out es v mem′ out′ e = subst (λ (k : ℕ). StoredUnder t W k mem out es v mem′ out′) (sym e)
 
 -- where the test holds: the function's entry, and what was told
 abbrev begun : tie.Then1 → tie.Start
@@ -79,8 +82,12 @@ returns : tie.Need-returns
 returns c =
     let f = c .before .before .before .before in
     let i = f .before .before .before in
+    let a = begun i in
+    let b = bytes-at (a .args .memory .now) (λ j. i .before .before .before .slice-known .given j .fits) in
     λ es R.
-    of-eights _ _ _ _ es _ _ _ (told i .0) (f .finish-one .ensures es (eights _ _ _ _ _ _ _ es (told i .0) R))
+    of-eights _ _ _ _ _ es _ _ _ (told i .0)
+    (one-under _ _ _ (a .args .memory .now) _ _ _ es (eights _ _ _ _ _ _ _ es (told i .0) R) (told i .1) b (a .args .strict)
+    (f .finish-one .ensures es (eights _ _ _ _ _ _ _ es (told i .0) R)))
 
 -- ---- any others
 
@@ -98,6 +105,62 @@ join-in-order-requires c κs =
       ready-distinct _ _ _ M _ _ _ (a .pre .0) r,
     )
 
+-- ---- 12
+
+slice-aggregate-overlaps : tie.Need-slice-aggregate-overlaps
+slice-aggregate-overlaps c = search needs
+
+overlaps-requires : tie.Need-overlaps-requires
+overlaps-requires c κs = in-C (c .before .before)
+
+-- what the pass over the stretches told
+abbrev passed : tie.After-overlaps → tie.After-join-in-order
+passed v = v .before .before .before
+
+module _ (i : tie.Then2) where
+  abbrev o : tie.After-join-in-order
+  o = passed (i .before)
+
+  -- strict is on, and two keys share a byte
+  due : (start o .args .strict ≡ true) × (isFound (firstMeeting (entries (start o .args .keys .now) 0 (start o .args .n))) ≡ true)
+  due =
+      let a = start o in
+      let t = both (a .args .strict) (not (parted 0 (entries (C o) 0 (m o)))) (sym (i .before .overlaps .ensures) ∙ i .if2 .taken) in (
+        t .0,
+        sym (ready-parted _ _ _ (a .args .memory .now) _ _ _ (a .pre .0) (a .pre .1) _ _ (o .join-in-order .ensures .1) (in-C o) (bytes o))
+            ∙ t .1,
+      )
+
+lowest-requires : tie.Need-lowest-requires
+lowest-requires c κs = (start (o c) .pre .1 .in-array, due c .1)
+
+cast-t28 : tie.Need-cast-t28
+cast-t28 c = omega arith
+
+start-of-requires : tie.Need-start-of-requires
+start-of-requires c κs = search needs
+
+add-t31 : tie.Need-add-t31
+add-t31 c =
+    let l = c .before in
+    let a = start (o (l .before)) in
+    omega (
+      arith,
+      ready-address _ _ _ (a .args .memory .now) _ _ _ (a .pre .0) (a .pre .1) _ (l .lowest .ensures),
+      c .start-of .ensures .0,
+    )
+
+returns-2 : tie.Need-returns-2
+returns-2 c =
+    let l = c .before in
+    let i = l .before in
+    let a = start (o i) in
+    λ es R.
+    ready-overlap _ _ _ (a .args .memory .now) _ _ _ es R _ (l .lowest .ensures) _ (due i .0) _ _ _ (omega arith)
+    (omega (arith, c .start-of .ensures .0))
+
+-- ---- room
+
 slice-aggregate-has-room : tie.Need-slice-aggregate-has-room
 slice-aggregate-has-room c = search needs
 
@@ -106,7 +169,7 @@ mul-has-room c = search needs
 
 has-room-requires : tie.Need-has-room-requires
 has-room-requires c κs =
-    let o = c .before .before in
+    let o = passed (c .before .before) in
     let p = start o .pre in
     let q = o .join-in-order .ensures in (
       in-C o,
@@ -115,27 +178,35 @@ has-room-requires c κs =
       p .1 .bytes,
     )
 
-returns-2 : tie.Need-returns-2
-returns-2 c =
-    let o = c .before .before .before .before in
+-- where room was tested: after ordering, and 12 isn't due
+abbrev ordered : tie.After-has-room → tie.After-join-in-order
+ordered h = passed (h .before .before .before)
+
+undue : (h : tie.After-has-room) → start (ordered h) .args .strict && not (parted 0 (entries (C (ordered h)) 0 (m (ordered h)))) ≡ false
+undue h = sym (h .before .before .before .overlaps .ensures) ∙ h .before .before .if2 .left
+
+returns-3 : tie.Need-returns-3
+returns-3 c =
+    let h = c .before in
+    let o = ordered h in
+    let a = start o in
+    let j = o .join-in-order .ensures .1 in
     λ es R.
-    ready-short _ _ _ (start o .args .memory .now) _ _ _ es R _ _ (o .join-in-order .ensures .1) (in-C o) (bytes o) _
-    (sym (c .before .has-room .ensures) ∙ not-true (c .before .has-room .result) (c .if2 .taken))
+    ready-under _ _ _ (a .args .memory .now) _ _ _ es R _ _ j (in-C o) (bytes o) (a .args .strict) (undue h)
+    (ready-short _ _ _ (a .args .memory .now) _ _ _ es R _ _ j (in-C o) (bytes o) _
+    (sym (h .has-room .ensures) ∙ not-true (h .has-room .result) (c .if3 .taken)))
 
 -- ---- there is room
 
 abbrev tested : tie.After-write-vector → tie.After-has-room
 tested w = w .before .before .before
 
-abbrev ordered : tie.After-has-room → tie.After-join-in-order
-ordered h = h .before .before .before
-
 room : (w : tie.After-write-vector)
     → total (merged (entries (C (ordered (tested w))) 0 (m (ordered (tested w))))) + 4
     ≤ length (start (ordered (tested w)) .args .patch .now)
 room w =
     let h = tested w .has-room in
-    leb-true _ _ (sym (h .ensures) ∙ not-false (h .result) (w .before .before .if2 .left))
+    leb-true _ _ (sym (h .ensures) ∙ not-false (h .result) (w .before .before .if3 .left))
 
 write-vector-requires : tie.Need-write-vector-requires
 write-vector-requires c κs =
@@ -167,16 +238,17 @@ same-length-3 c = search needs
 same-length-4 : tie.Need-same-length-4
 same-length-4 c = search needs
 
-returns-3 : tie.Need-returns-3
-returns-3 c =
+returns-4 : tie.Need-returns-4
+returns-4 c =
     let d = c .before .before in
     let w = d .before .before .before .before .before .before in
     let o = ordered (tested w) in
+    let j = o .join-in-order .ensures .1 in
     let r = w .write-vector .ensures in
     λ es R.
-    ready-done _ _ _ (start o .args .memory .now) _ _ _ es R _ _ (o .join-in-order .ensures .1) (in-C o)
-    (bytes o) _ _ _ _ _ _
-    (room w) (r .0 .0) (r .0 .1) (r .1) (d .compose .ensures .0) (d .compose .ensures .1)
+    ready-under _ _ _ (start o .args .memory .now) _ _ _ es R _ _ j (in-C o) (bytes o) (start o .args .strict) (undue (tested w))
+    (ready-done _ _ _ (start o .args .memory .now) _ _ _ es R _ _ j (in-C o) (bytes o) _ _ _ _ _ _
+    (room w) (r .0 .0) (r .0 .1) (r .1) (d .compose .ensures .0) (d .compose .ensures .1))
 
 pub finish-spec : {M : Type 1} → statement M
 finish-spec =
@@ -189,13 +261,20 @@ finish-spec =
     returns
     slice-aggregate-join-in-order
     join-in-order-requires
+    slice-aggregate-overlaps
+    overlaps-requires
+    lowest-requires
+    cast-t28
+    start-of-requires
+    add-t31
+    returns-2
     slice-aggregate-has-room
     mul-has-room
     has-room-requires
-    returns-2
+    returns-3
     write-vector-requires
     slice-aggregate-compose
     compose-requires
     same-length-3
     same-length-4
-    returns-3)
+    returns-4)

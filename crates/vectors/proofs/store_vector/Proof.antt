@@ -16,7 +16,7 @@ use Rattle.checks.proofs.Spans.{z-room, z-long, p-room, p-long}
 use Rattle.gathering.specs.Gathering.{GatheredAs}
 use Rattle.gathering.specs.declared.Gathered.the-variants as G
 use Rattle.vectors.specs.Steps.{Ready}
-use Rattle.outcomes.proofs.Concluding.{stored-fault, stored-listed}
+use Rattle.outcomes.proofs.Concluding.{stored-fault, stored-listed, under-fault}
 use Rattle.vectors.proofs.Ready.{vector-few, ready, gathered-out, gathered-keys}
 use Rattle.vectors.proofs.store_vector.Statement.{statement}
 use Rattle.vectors.proofs.store_vector.Tie as tie
@@ -157,9 +157,10 @@ returns c =
     let L = length (a .args .memory .now) in
     let o = gathered-out W L (a .args .v .size) (es (read g)) (A g) (g .gather-vector .result) (gathered g) _ _ (e .element .given .1) in
     stored-listed (es-are (read g))
+    (under-fault (a .args .strict)
     (stored-fault W (a .args .v .size) (a .args .memory .now) (a .args .patch .now) (es (read g)) (a .pre .1 .1) _ _ (o .0) (o .1) (o .2)
     (omega (arith, o .3))
-    (c .first-outside .ensures ∙ ap (λ (x : ℕ). cond (inWindow W L x 1) ((W + L) % 2 ^ 64) x) (o .3)))
+    (c .first-outside .ensures ∙ ap (λ (x : ℕ). cond (inWindow W L x 1) ((W + L) % 2 ^ 64) x) (o .3))) (o .0) (o .1))
 
 same-length : tie.Need-same-length
 same-length c = search needs

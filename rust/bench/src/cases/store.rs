@@ -5,7 +5,8 @@ use super::shapes::{Active, Layout, Shape, SORTED, UNSORTED, WINDOW};
 use super::{times_hand, Aim, Case, Outcome, Subject, NO_SLOWER};
 use crate::sides::Side;
 use crate::timing::{timed, Repeated};
-use crate::verdicts::{DONE, FAULT};
+use crate::verdicts::{DONE, FAULT, OVERLAP};
+use compare::storing::arm::STRICT;
 use compare::storing::classes::{class_of, CLASSES, INDEX};
 use compare::storing::input::Input;
 use compare::storing::{self, shapes};
@@ -24,6 +25,9 @@ const STRIDED_NARROW: f64 = 1.8;
 /// A run for each element of a strided store.
 const SPACED: f64 = 1.1;
 const RANDOM: f64 = 1.15;
+/// Strict stores, in the place of those of bytes and of words: 1.3 times their time.
+const STRICT_BYTES: f64 = 1.75;
+const STRICT_NARROW: f64 = 1.8;
 
 /// How many random stores are called in turn.
 const STORES: usize = 512;
@@ -53,6 +57,7 @@ pub fn cases() -> Vec<Case> {
     cases.push(one("class 26, VB 256, halfword counter: 512 runs", SPACED, second));
     cases.push(pairs());
     cases.push(fault());
+    strict(&mut cases);
     cases.push(random("classes 1 to 7", 7));
     cases.push(random("all classes", CLASSES.len()));
     cases
@@ -117,6 +122,26 @@ fn fault() -> Case {
     input.z[behind - 8..behind].copy_from_slice(&(WINDOW as u64 - 7).to_le_bytes());
     let stores = Stores { verdict: FAULT, ..Stores::new(vec![input]) };
     case("class 4, VB 256, the last element faults", NO_SLOWER, stores)
+}
+
+/// Strict stores of 64 elements, which share no byte, or of which the last shares one with the first.
+fn strict(cases: &mut Vec<Case>) {
+    let store = |class, layout| {
+        let mut input = Shape { layout, ..Shape::new(class, 256) }.store();
+        input.flags |= 1 << STRICT;
+        input
+    };
+    for (class, hand) in [(6, STRICT_BYTES), (24, STRICT_NARROW)] {
+        for (name, layout) in [("sorted", SORTED), ("unsorted", UNSORTED)] {
+            let name = format!("class {class}, VB 256, {name}, strict");
+            cases.push(case(name, times_hand(hand), Stores::new(vec![store(class, layout)])));
+        }
+    }
+    let mut last = store(24, SORTED);
+    let behind = (INDEX.of(last.word) + 1) * last.vb;
+    last.z[behind - 4..behind].copy_from_slice(&[3, 0, 0, 0]);
+    let stores = Stores { verdict: OVERLAP, ..Stores::new(vec![last]) };
+    cases.push(case("class 24, VB 256, the last element overlaps", NO_SLOWER, stores));
 }
 
 /// Random stores of the classes up to this one that are done.

@@ -2,6 +2,7 @@
 
 use super::checks::{fault, Lent};
 use super::decode::{field, NONE, SXTW};
+use starshackle::Flags;
 
 /// Elements of `ESIZE` bytes, of which `SIZE` are stored, at offsets that are extended so. What is
 /// cold takes them by value, so that they need not lie in memory where it isn't called.
@@ -16,6 +17,7 @@ pub struct Lanes<'a, const ESIZE: usize, const SIZE: usize, const EXTENSION: u8>
     /// How many offsets of the window an element fits at.
     room: u64,
     pub base: u64,
+    pub strict: bool,
 }
 
 /// An element: its number, whether it is active, its offset in the window.
@@ -49,7 +51,8 @@ impl<'a, const ESIZE: usize, const SIZE: usize, const EXTENSION: u8>
         let mask = lent.p(field(lent.word, 10, 7));
         let values = lent.z(field(lent.word, 0, 31));
         let room = (lent.length + 1).saturating_sub(SIZE as u64);
-        Lanes { mask, offsets, values, scale, start: 0, room, base: lent.base }
+        let strict = lent.flags & Flags::STRICT.0 != 0;
+        Lanes { mask, offsets, values, scale, start: 0, room, base: lent.base, strict }
     }
 
     /// Calls `take` with each element.

@@ -1,7 +1,7 @@
 //! What a call answers.
 
 use crate::verdicts::{BAD_PATCH, DONE, FAULT, ILLEGAL, LENGTH, NO_ROOM, OUTSIDE, REGISTERS};
-use crate::verdicts::{STACK, UNDEFINED, WINDOW};
+use crate::verdicts::{OVERLAP, STACK, UNDEFINED, WINDOW};
 use starshackle::Answer;
 
 /// Why a call isn't done.
@@ -14,6 +14,7 @@ pub enum Refusal {
     Illegal,
     Stack,
     Fault { element: usize, address: u64 },
+    Overlap { element: usize, address: u64 },
     NoRoom,
     BadPatch,
     Outside { run: usize, address: u64 },
@@ -29,6 +30,7 @@ impl Refusal {
             Refusal::Illegal => ILLEGAL,
             Refusal::Stack => STACK,
             Refusal::Fault { .. } => FAULT,
+            Refusal::Overlap { .. } => OVERLAP,
             Refusal::NoRoom => NO_ROOM,
             Refusal::BadPatch => BAD_PATCH,
             Refusal::Outside { .. } => OUTSIDE,
@@ -38,6 +40,7 @@ impl Refusal {
     fn detail(self) -> Answer {
         match self {
             Refusal::Fault { element: number, address }
+            | Refusal::Overlap { element: number, address }
             | Refusal::Outside { run: number, address } => [number as u64, address, 0, 0, 0],
             _ => [0; 5],
         }

@@ -5,7 +5,8 @@ use super::encoding::encoded;
 use super::machine::Machine;
 use super::refusal::{answered, Done, Refusal};
 use super::window::Window;
-use std::collections::BTreeMap;
+use starshackle::Flags;
+use std::collections::{BTreeMap, BTreeSet};
 
 /// As the model's, with the same arguments.
 #[inline(never)]
@@ -43,6 +44,9 @@ fn try_store(
     let window = Window::new(base, memory.len() as u64)?;
     let access = Access::new(machine, word)?;
     check_elements(&access, &window)?;
+    if machine.has(Flags::STRICT) {
+        check_bytes(&access)?;
+    }
     let active = || access.elements().filter(|element| element.active);
     let mut writes = BTreeMap::new();
     let (mut done, mut end) = (Done::default(), None);
@@ -71,6 +75,18 @@ fn check_elements(access: &Access, window: &Window) -> Result<(), Refusal> {
             let outside = addresses.find(|byte| window.offset(*byte, 1).is_none());
             let address = outside.expect("a byte of the element is outside");
             return Err(Refusal::Fault { element: number, address });
+        }
+    }
+    Ok(())
+}
+
+/// Verdict 12.
+fn check_bytes(access: &Access) -> Result<(), Refusal> {
+    let mut written = BTreeSet::new();
+    for (element, Element { active, address, bytes }) in access.elements().enumerate() {
+        let mut addresses = (address..=u64::MAX).take(bytes.len());
+        if active && !addresses.all(|byte| written.insert(byte)) {
+            return Err(Refusal::Overlap { element, address });
         }
     }
     Ok(())

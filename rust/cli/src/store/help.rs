@@ -10,7 +10,7 @@ FILE is a text with lines NAME = VALUE. What isn't given is 0; # starts a commen
   class = 6                    or in its place the fields, by the names that `encode` takes
   vb = 16                      the vector length in bytes
   flags = sve streaming        those that are on: sve, sme2, sve2p1, streaming, fa64, sp-check,
-                               sp-check-none-active
+                               sp-check-none-active, strict
   edition = early              the edition of Arm's SVE supplement, early or late; late if not given.
                                vb is 16, 32, 64, 128 or 256; under the early edition, with streaming
                                off, any multiple of 16 from 16 to 256

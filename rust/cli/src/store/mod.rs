@@ -87,6 +87,7 @@ const FLAGS: &[(&str, Flags)] = &[
     ("fa64", Flags::FA64),
     ("sp-check", Flags::SP_CHECK),
     ("sp-check-none-active", Flags::SP_CHECK_NONE_ACTIVE),
+    ("strict", Flags::STRICT),
 ];
 
 pub fn read(path: &str) -> Result<Described, Failure> {

@@ -6,8 +6,9 @@ use super::classes::{
 };
 use super::input::Input;
 use crate::reference::Outcome;
-use crate::verdicts::{DONE, FAULT, ILLEGAL, LENGTH, REGISTERS, STACK, UNDEFINED, WINDOW};
+use crate::verdicts::{DONE, FAULT, ILLEGAL, LENGTH, OVERLAP, REGISTERS, STACK, UNDEFINED, WINDOW};
 use crate::LONGEST;
+use std::collections::BTreeSet;
 
 /// The vector lengths, in bytes, of the late edition, and of both with streaming on.
 pub const LENGTHS: [usize; 5] = [16, 32, 64, 128, 256];
@@ -20,6 +21,7 @@ pub const STREAMING: u32 = 3;
 pub const FA64: u32 = 4;
 pub const SP_CHECK: u32 = 5;
 pub const SP_CHECK_NONE_ACTIVE: u32 = 6;
+pub const STRICT: u32 = 7;
 /// The early edition.
 pub const EARLY: u32 = 8;
 
@@ -104,16 +106,17 @@ fn registers_lent(input: &Input) -> Result<(), u64> {
     }
 }
 
-/// The elements of a store that none of the refusals 1 to 7 is due for.
+/// The elements of a store that none of the refusals 1 to 7 and 12 is due for.
 pub fn judged<'a>(input: &Input, elements: &'a Elements) -> Result<&'a [Element], Outcome<6>> {
     let class = allowed(input).map_err(refused)?;
     let elements = elements.as_deref().map_err(|&verdict| refused(verdict))?;
     if stack_is_refused(input, class, elements) {
         return Err(refused(STACK));
     }
-    match fault(input, elements) {
+    let refusal = fault(input, elements).or_else(|| overlap(input, elements));
+    match refusal {
         None => Ok(elements),
-        Some(fault) => Err(fault),
+        Some(refusal) => Err(refusal),
     }
 }
 
@@ -166,6 +169,23 @@ pub fn fault(input: &Input, elements: &[Element]) -> Option<Outcome<6>> {
     let e = elements.iter().position(|element| element.active && outside(element))?;
     let address = byte_outside(input, &elements[e]).expect("modulo 2^64 a byte is outside too");
     Some(Outcome { verdict: FAULT, numbers: [e as u64, address, 0, 0, 0, 0] })
+}
+
+/// The refusal of a strict store for the lowest active element with a byte that a lower active one
+/// has too: its number, and its first address.
+pub fn overlap(input: &Input, elements: &[Element]) -> Option<Outcome<6>> {
+    let e = twice(elements).filter(|_| flag(input, STRICT))?;
+    Some(Outcome { verdict: OVERLAP, numbers: [e as u64, elements[e].address, 0, 0, 0, 0] })
+}
+
+/// The lowest active element with a byte that a lower active one has too.
+pub fn twice(elements: &[Element]) -> Option<usize> {
+    let mut written = BTreeSet::new();
+    elements.iter().position(|element| {
+        // Every byte is put, also behind one that is there already.
+        let new = |byte: u128| written.insert(byte);
+        element.active && element.addresses().map(new).filter(|new| !new).count() > 0
+    })
 }
 
 /// The address, modulo 2^64, of the first of an element's bytes that isn't in the window.

@@ -1,7 +1,7 @@
 //! The scope paper's cases, asked of the independent model and of the library.
 
 use super::arm::*;
-use super::classes::{BESIDE, CLASSES, INDEX};
+use super::classes::{Class, Form, BESIDE, CLASSES, INDEX};
 use super::input::Input;
 use super::wrong::right;
 use super::Store;
@@ -689,6 +689,75 @@ fn the_byte_that_faults() {
         faults(k, k.wrapping_neg(), 0, 64, k.wrapping_neg()); // past 2^64 into it
         faults(k + 1, 0x1000 - k, 0x1000, 1, 0x1000 - k); // over both its ends
         faults(k, 0x1000 - k, 0x1000, 0, 0x1000 - k);
+    }
+}
+
+/// Document 02 (viii): a strict store of classes 1 to 7, 12 and 13 to 24, element 0 at this offset from
+/// 1000h and a later one at another, with its number; and the store that isn't strict.
+fn strict(class: usize, e: usize, [first, second]: [u64; 2]) -> [Input; 2] {
+    let (Class { base, esize, .. }, vb) = (&CLASSES[class - 1], 256);
+    let (z, p) = (vec![0; 32 * vb], vec![0; 2 * vb]);
+    let word = base | if class == 12 { 2 << 5 } else { 2 << 16 } | 1;
+    let mut store = Input { vb, z, p, base: 0xF00, memory: vec![0x77; 1_024], ..input(word) };
+    for (e, offset) in [(0, first), (e, second)] {
+        let at = e * esize / 8;
+        store.z[2 * vb + at..][..4].copy_from_slice(&(offset as u32).to_le_bytes());
+        store.p[at / 8] |= 1 << (at % 8);
+    }
+    let lenient = store.clone();
+    store.flags |= 1 << STRICT;
+    [store, lenient]
+}
+
+fn overlapping(element: u64, address: u64) -> Outcome<6> {
+    Outcome { verdict: OVERLAP, numbers: [element, address, 0, 0, 0, 0] }
+}
+
+#[test]
+fn stores_that_hit_a_byte_twice() {
+    let classes = (1..25).filter(|class| !(8..12).contains(class));
+    for (class, e) in classes.flat_map(|class| [1, 2, 15].map(|e| (class, e))) {
+        let size = CLASSES[class - 1].msize as u64 / 8;
+        let unit = match CLASSES[class - 1].form {
+            Form::Scatter { scale, .. } => 1 << scale,
+            _ => 1,
+        };
+        for (distance, below) in (0..size / unit + 2).flat_map(|n| [(n, true), (n, false)]) {
+            let offsets = if below { [16 + distance, 16] } else { [16, 16 + distance] };
+            let [strict, lenient] = strict(class, e, offsets);
+            let address = 0x1000 + offsets[1] * unit;
+            let right = match distance * unit < size {
+                true => overlapping(e as u64, address),
+                false => answer(&lenient),
+            };
+            assert_eq!((answer(&strict), answer(&lenient).verdict), (right, DONE), "{class}");
+            assert_eq!(left(&strict, 0).verdict, if distance * unit < size { 12 } else { 8 });
+        }
+    }
+}
+
+/// "It stands after 7 and before 8", also where the elements that share a byte are lower.
+#[test]
+fn where_12_stands() {
+    let [mut store, lenient] = strict(4, 1, [0, 7]);
+    assert_eq!(answer(&store), overlapping(1, 0x1007));
+    assert_eq!((left(&store, 0).verdict, left(&lenient, 0).verdict), (OVERLAP, NO_ROOM));
+    store.z[2 * 256 + 16..][..4].copy_from_slice(&0x2FFu32.to_le_bytes());
+    store.p[2] |= 1;
+    assert_eq!(answer(&store), faulting(2, 0x1300));
+    store.flags |= 1 << STREAMING;
+    assert_eq!(answer(&store), refused(ILLEGAL));
+}
+
+#[test]
+fn strided_stores_share_no_byte() {
+    for (vb, counter) in LENGTHS.into_iter().flat_map(|vb| (0..=u16::MAX).map(move |c| (vb, c))) {
+        if counter % 97 < 2 {
+            let mut store = strided_at(vb, 0xA13F_E000, counter);
+            let lenient = answer(&store);
+            store.flags |= 1 << STRICT;
+            assert_eq!(answer(&store), lenient);
+        }
     }
 }
 

@@ -1,7 +1,7 @@
 //! Random stores: words, registers, windows and flags.
 
 use super::aim::{aim, Window};
-use super::arm::{any_multiple, EARLY, FA64, LENGTHS, SME2, STREAMING, SVE, SVE2P1};
+use super::arm::{any_multiple, EARLY, FA64, LENGTHS, SME2, STREAMING, STRICT, SVE, SVE2P1};
 use super::classes::{Class, Form, BASE, CLASSES, INDEX};
 use super::input::Input;
 use super::spoil::spoil;
@@ -69,11 +69,15 @@ pub fn other_word(random: &mut Random, class: &Class, word: u32) -> u32 {
     }
 }
 
-/// Flags under which stores of the class are defined and legal, all others at random.
+/// Flags under which stores of the class are defined and legal, all others at random; one store in
+/// four is strict.
 fn flags(random: &mut Random, class: &Class) -> u64 {
     let mut flags = random.number();
     if random.one_in(2) {
-        flags &= 0x7F | 1 << EARLY;
+        flags &= 0xFF | 1 << EARLY;
+    }
+    if random.one_in(2) {
+        flags &= !(1 << STRICT);
     }
     flags |= 1 << feature(class);
     match class.form {

@@ -1,12 +1,12 @@
 //! What the random stores have to hit.
 
-use super::arm::{self, mask_up_to, maxbit, Element, EARLY, LENGTHS, SP_CHECK, STREAMING};
+use super::arm::{self, mask_up_to, maxbit, Element, EARLY, LENGTHS, SP_CHECK, STREAMING, STRICT};
 use super::classes::{class_of, Form, BASE, CLASSES, R31, XS};
 use super::counters::{NARROW, STRIDED};
 use super::effect::Effect;
 use super::joints::joints;
 use super::subject::Subject;
-use crate::verdicts::{self, DONE, FAULT, ILLEGAL, STACK, UNDEFINED, WINDOW};
+use crate::verdicts::{self, DONE, FAULT, ILLEGAL, OVERLAP, STACK, UNDEFINED, WINDOW};
 use crate::LONGEST;
 
 /// Something to count by: each of the numbers has to be hit.
@@ -25,7 +25,7 @@ pub const SCATTER: &[u64] =
 /// Classes whose addresses need not be multiples of anything.
 pub const UNSCALED: &[u64] = &[2, 4, 5, 6, 7, 12, 14, 16, 18, 20, 22, 24];
 /// Those of them whose elements have several bytes.
-const OVERLAPPING: &[u64] = &[2, 4, 12, 14, 16, 18, 20, 22, 24];
+pub const OVERLAPPING: &[u64] = &[2, 4, 12, 14, 16, 18, 20, 22, 24];
 /// Classes with a scalar base and a vector of offsets.
 const FROM_BASE: &[u64] = &[1, 2, 3, 4, 5, 6, 7, 13, 14, 15, 16, 17, 18, 19, 20, 21, 22, 23, 24];
 /// Those of them whose offsets are extended.
@@ -46,7 +46,7 @@ const BYTES: &[u64] = &[25, 26, 27, 28];
 const SHORT: &[u64] = &[25, 26, 27, 28, 29, 30, 31, 32];
 /// Strided stores whose elements are wider than bytes.
 const WIDER: &[u64] = &[8, 9, 10, 11, 29, 30, 31, 32, 33, 34, 35, 36];
-const VERDICT: &[u64] = &[0, 1, 2, 3, 4, 5, 6, 7];
+const VERDICT: &[u64] = &[0, 1, 2, 3, 4, 5, 6, 7, OVERLAP];
 const VB: &[u64] = &[16, 32, 64, 128, 256];
 /// The lengths that there are only under the early edition with streaming off.
 const OTHER_VB: &[u64] = &[48, 80, 96, 112, 144, 160, 176, 192, 208, 224, 240];
@@ -71,6 +71,11 @@ pub const GROUPS: &[Group] = &[
     group("class, stack", FROM_SP, |s| s.class_with(STACK)),
     group("class, fault", CLASS, |s| s.class_with(FAULT)),
     group("verdict with room for each patch", VERDICT, |s| Some(s.verdict())),
+    group("VB, overlap", VB, |s| s.overlap().map(|_| s.input.vb as u64)),
+    group("VB, strict, done", VB, |s| {
+        (s.is_strict() && s.right.is_ok()).then_some(s.input.vb as u64)
+    }),
+    group("strict and edition, elements overlap", BITS, |s| s.strict_bits()),
     group("VB 16, class, done", CLASS, |s| s.class_where(|s, _| s.input.vb == 16)),
     group("VB 32, class, done", CLASS, |s| s.class_where(|s, _| s.input.vb == 32)),
     group("VB 64, class, done", CLASS, |s| s.class_where(|s, _| s.input.vb == 64)),
@@ -275,6 +280,12 @@ impl Subject {
     fn strided_elsewhere(&self) -> Option<()> {
         let other = OTHER_VB.contains(&(self.input.vb as u64));
         (other && self.is_strided()).then_some(())
+    }
+
+    /// Strict and the edition, as bits, of a store whose active elements share a byte in the window.
+    fn strict_bits(&self) -> Option<u64> {
+        let shares = matches!(self.verdict(), DONE | OVERLAP) && overlaps(self);
+        shares.then_some(self.input.flags >> STRICT & 3)
     }
 
     /// How many bytes the window has.

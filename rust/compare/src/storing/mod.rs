@@ -18,6 +18,7 @@ mod groups;
 pub mod input;
 mod joints;
 pub mod shapes;
+mod sharing;
 mod spaced;
 mod spoil;
 mod stretched;

@@ -3,29 +3,33 @@
 use super::faults::KINDS as FAULTS;
 use super::groups::{overlaps, Group, GROUPS};
 use super::joints::{KINDS, PLACES};
+use super::sharing::KINDS as OVERLAPS;
 use super::subject::Subject;
 use crate::counts::Counts;
 use crate::report::Report;
-use crate::verdicts::NO_ROOM;
+use crate::verdicts::{NO_ROOM, OVERLAP};
 use std::cmp::Ordering;
 
-/// Rows that follow the groups': of each kind of faults one by class, of each kind of joints one by
-/// class and one by place, then others.
+/// Rows that follow the groups': of each kind of faults and of overlaps one by class, of each kind of
+/// joints one by class and one by place, then others.
 const FAULT: usize = GROUPS.len();
-const JOINTS: usize = FAULT + FAULTS.len();
+const SHARED: usize = FAULT + FAULTS.len();
+const JOINTS: usize = SHARED + OVERLAPS.len();
 const CALLS: usize = JOINTS + 2 * KINDS.len();
 const ROOMS: usize = CALLS + 1;
 const APPLIED: usize = ROOMS + 1;
 const PAIRS: usize = APPLIED + 1;
 const OVERLAPPING: usize = PAIRS + 1;
 const EDITIONS: usize = OVERLAPPING + 1;
-const ROWS: [(&str, &[u64]); 6] = [
-    ("verdict of a call", &[0, 1, 2, 3, 4, 5, 6, 7, NO_ROOM]),
+const OVERLAP_ROOMS: usize = EDITIONS + 1;
+const ROWS: [(&str, &[u64]); 7] = [
+    ("verdict of a call", &[0, 1, 2, 3, 4, 5, 6, 7, OVERLAP, NO_ROOM]),
     ("buffer short by one, exact, longer", &[1, 2, 3]),
     ("patch of one filling applied to another", &[1]),
     ("permuted form has another patch, the same", &[0, 1]),
     ("the same where elements overlap", &[0, 1]),
     ("the same where editions differ", &[0, 1]),
+    ("overlap, buffer of no byte, short, long", &[1, 2, 3]),
 ];
 
 pub struct Tally {
@@ -38,12 +42,17 @@ impl Tally {
         let groups = GROUPS.iter().map(|Group { name, numbers, .. }| (name.to_string(), *numbers));
         let faults =
             FAULTS.iter().map(|kind| (format!("class, fault, {}", kind.name), kind.classes));
+        let overlaps =
+            OVERLAPS.iter().map(|kind| (format!("class, overlap, {}", kind.name), kind.classes));
         let kinds = KINDS.iter().flat_map(|kind| {
             let [class, place] = ["class", "place"].map(|by| format!("{by}, {}", kind.name));
             [(class, kind.classes), (place, PLACES)]
         });
         let rows = ROWS.iter().map(|(name, numbers)| (name.to_string(), *numbers));
-        Tally { stores: 0, counts: Counts::new(groups.chain(faults).chain(kinds).chain(rows)) }
+        Tally {
+            stores: 0,
+            counts: Counts::new(groups.chain(faults).chain(overlaps).chain(kinds).chain(rows)),
+        }
     }
 
     pub fn count(&mut self, subject: &Subject) {
@@ -53,6 +62,9 @@ impl Tally {
         }
         for (number, kind) in FAULTS.iter().enumerate() {
             self.counts.hit(FAULT + number, kind.of(subject));
+        }
+        for (number, kind) in OVERLAPS.iter().enumerate() {
+            self.counts.hit(SHARED + number, kind.of(subject));
         }
         for (number, kind) in KINDS.iter().enumerate() {
             let (row, (hit, places)) = (JOINTS + 2 * number, kind.of(subject));
@@ -64,6 +76,7 @@ impl Tally {
     /// Counts a call in a buffer of this length.
     pub fn call(&mut self, subject: &Subject, room: usize) {
         self.counts.hit(CALLS, Some(subject.outcome(room).verdict));
+        self.counts.hit(OVERLAP_ROOMS, subject.room_of_overlap(room));
         if let Ok(effect) = &subject.right {
             let exact = effect.patch.len();
             let kind = match room.cmp(&exact) {

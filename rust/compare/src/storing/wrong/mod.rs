@@ -8,6 +8,7 @@ mod elements;
 mod faults;
 mod memory;
 mod narrow;
+mod overlaps;
 mod patches;
 mod steps;
 mod strided;
