@@ -1,0 +1,5 @@
+pub mod Merged
+pub mod Zipping
+pub mod Standing
+pub mod Turning
+pub mod Outcomes

@@ -1,0 +1,5 @@
+-- ---- what the customer must believe of comparing, from document 02 (v)
+pub mod Differences
+pub mod Comparing
+-- ---- what serves the contracts of the code's own functions
+pub mod Merging
