@@ -3,3 +3,4 @@ pub mod Zipping
 pub mod Standing
 pub mod Turning
 pub mod Outcomes
+pub mod Statements

@@ -1,5 +1,6 @@
 -- ---- what the customer must believe of comparing, from document 02 (v)
 pub mod Differences
 pub mod Comparing
+pub mod Statements
 -- ---- what serves the contracts of the code's own functions
 pub mod Merging

@@ -96,7 +96,8 @@ add-n c = omega (arith, next c .same, next c .small, bytes-fit)
 loop-less : tie.Need-loop-less Inv-loop μ-loop
 loop-less c =
     let k = turn c in
-    fewer _ _ _ _ _ (k .next-stretch .ensures) (k .before .loop .inv .fit-one) (k .before .loop .inv .fit-two) _ _ (c .before .skip .ensures)
+    fewer _ _ _ _ _ (k .next-stretch .ensures) (k .before .loop .inv .fit-one) (k .before .loop .inv .fit-two) _ _
+    (c .before .skip .ensures)
     (c .skip2 .ensures) (c .before .before .before .before .before .if1 .left)
 
 loop-again : tie.Need-loop-again Inv-loop μ-loop
