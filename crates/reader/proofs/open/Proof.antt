@@ -1,4 +1,5 @@
--- `reader::open` meets its contract: a walk of its MIR, by hand. A `Reader` is made of the slice passed and a cursor at 0, in the result's local.
+-- `reader::open` meets its contract: a walk of its MIR, by hand. A `Reader` is made of the slice passed and a cursor at 0, in the
+-- result's local.
 -- A `&[u8]` is Copy, so what it owns is had twice: once for patch at exit, and once inside the result. What the cursor owns are facts.
 -- Assumes nothing.
 use mathlib.Core.Path.{refl}
@@ -18,7 +19,8 @@ use contract.Monad.{Fun}
 use contract.Running.{givenOf, tables, tablesOf}
 use types.Kit.{Given, ‵, raw, _⊛_, _$_, _∵_, !, qed, by, move, use1, split, fsplit, fjoin, suffices, frame}
 use types.Part.{agg}
-use types.Run.{look, init, forget, stop, from, load, lit, and-then, no-more, assigns, returns, enter, alloc1, alloc0, params1, pass1, pass0, free1, free0}
+use types.Run.{look, init, forget, stop, from, load, lit, and-then, no-more, assigns, returns, enter, alloc1, alloc0, params1, pass1}
+use types.Run.{pass0, free1, free0}
 use sound.WpLaws.{WpFn-mono}
 use denote.RattleType.{owns}
 use denote.Laws.{Is}
@@ -50,7 +52,8 @@ stayed = (stay-none-slice (0 ∷ []) tt (plain (λ _. u8)) yes, tt)
 start-is : Is Cu.the-row (start 0) (Cu′.lowered (start 0) ∷ [])
 start-is = LL.owes Cu.the-type Cu′.the-laws (start 0) ((refl, lit< tt), ((refl, lit< tt), ((refl, lit< tt), ((refl, lit< tt), tt))))
 
-module _ {M : Type 1} (𝓤 : URA M) (H : Heap 𝓤) (A : Atoms 𝓤) (W : Given 𝓤 H A) (mem : Memory → SProp 𝓤) (run : Routine → Fun 𝓤) (κ : Lft) (q : Share) (s : RefT (List ℕ)) where
+module _ {M : Type 1} (𝓤 : URA M) (H : Heap 𝓤) (A : Atoms 𝓤) (W : Given 𝓤 H A) (mem : Memory → SProp 𝓤) (run : Routine → Fun 𝓤) (κ : Lft)
+    (q : Share) (s : RefT (List ℕ)) where
   abbrev made : Reader
   made = record { patch = s; cursor = start 0 }
 
@@ -63,26 +66,36 @@ module _ {M : Type 1} (𝓤 : URA M) (H : Heap 𝓤) (A : Atoms 𝓤) (W : Given
   exits : ent 𝓤 (onEntry 𝓤 H A op.signature (κ, tt) (q, tt) (s, tt) vals) (Post (T′.lowered made))
   exits =
       qed W ((‵ (flft κ q) ⊛ ‵ ftrue) ∷ ‵ (owns (slice κ ∷ []) (s, tt) vals) ∷ []) ∵
-      suffices ! _ (ends-at 𝓤 H A op.ended stayed (op.clauses 𝓤 H A mem run) W (((κ, tt), (q, tt), tt, (s, tt), vals), tt) (T′.lowered made) made (tt, tt) (tt, tt)) $ says ! (refl, refl) $
-      frame ! $ fsplit ! $ use1 W (‵ (slice κ .own s (slice-val s ∷ [])) ⊛ ‵ (slice κ .own s (slice-val s ∷ []))) (shr-slice-copy 𝓤 H A W (named 0) κ u8 .twice s (slice-val s ∷ [])) $ split ! $ move ! (0 ∷ 2 ∷ []) $ fjoin ! $ frame ! $
+      suffices ! _ (ends-at 𝓤 H A op.ended stayed (op.clauses 𝓤 H A mem run) W (((κ, tt), (q, tt), tt, (s, tt), vals), tt)
+      (T′.lowered made) made (tt, tt) (tt, tt)) $ says ! (refl, refl) $
+      frame ! $ fsplit ! $ use1 W (‵ (slice κ .own s (slice-val s ∷ [])) ⊛ ‵ (slice κ .own s (slice-val s ∷ [])))
+      (shr-slice-copy 𝓤 H A W (named 0) κ u8 .twice s (slice-val s ∷ [])) $ split ! $ move ! (0 ∷ 2 ∷ []) $ fjoin ! $ frame ! $
       by ! (whole-of 𝓤 H A W κ s (start 0) start-is)
 
   module _ (C : Calls 𝓤 H) (Λ : Loops 𝓤 H) where
-    walk : Is (slice κ) s (slice-val s ∷ []) → ent 𝓤 (onEntry 𝓤 H A op.signature (κ, tt) (q, tt) (s, tt) vals) (WpFn 𝓤 H C Λ code.function (slice-val s ∷ []) Post)
+    walk : Is (slice κ) s (slice-val s ∷ []) → ent 𝓤 (onEntry 𝓤 H A op.signature (κ, tt) (q, tt) (s, tt) vals)
+        (WpFn 𝓤 H C Λ code.function (slice-val s ∷ []) Post)
     walk s-is =
         let s-fits = shr-slice-lawful 𝓤 H A W (named 0) κ u8 .typed s _ s-is .0 in
         let c-fits = cursor-fits 𝓤 H A W (start 0) start-is in
         qed W (raw (onEntry 𝓤 H A op.signature (κ, tt) (q, tt) (s, tt) vals) ∷ []) ∵ enter ! C Λ code.function (slice-val s ∷ []) _ $
         alloc1 ! (λ l₀. alloc1 ! (λ l₁. alloc1 ! (λ l₂. alloc0 ! $ params1 ! $ pass1 ! (init ! 2 refl s-fits) $ pass0 ! $
-        assigns ! (agg ! (and-then ! (lit ! tt) (and-then ! (lit ! tt) (and-then ! (lit ! tt) (and-then ! (lit ! tt) (no-more !)))))) (from ! (stop !)) (init ! 0 refl c-fits) $
-        assigns ! (agg ! (and-then ! (load ! (from ! (stop !)) (look ! 2 refl)) (and-then ! (load ! (from ! (stop !)) (look ! 0 refl)) (no-more !)))) (from ! (stop !)) (init ! 4 refl (tt, (s-fits .1, (c-fits .1, tt)))) $
-        returns ! (look ! 4 refl) $ forget ! 0 refl $ forget ! 2 refl $ forget ! 4 refl $ move ! (4 ∷ 5 ∷ []) $ free1 ! $ move ! (2 ∷ 3 ∷ []) $ free1 ! $ free1 ! $ free0 ! $ by ! exits)))
+        assigns ! (agg ! (and-then ! (lit ! tt) (and-then ! (lit ! tt) (and-then ! (lit ! tt) (and-then ! (lit ! tt) (no-more !))))))
+        (from ! (stop !)) (init ! 0 refl c-fits) $
+        assigns ! (agg ! (and-then ! (load ! (from ! (stop !)) (look ! 2 refl))
+        (and-then ! (load ! (from ! (stop !)) (look ! 0 refl)) (no-more !)))) (from ! (stop !))
+        (init ! 4 refl (tt, (s-fits .1, (c-fits .1, tt)))) $
+        returns ! (look ! 4 refl) $ forget ! 0 refl $ forget ! 2 refl $ forget ! 4 refl $ move ! (4 ∷ 5 ∷ []) $ free1 ! $ move !
+        (2 ∷ 3 ∷ []) $ free1 ! $ free1 ! $ free0 ! $ by ! exits)))
 
-open-meets : {M : Type 1} (𝓤 : URA M) (H : Heap 𝓤) (A : Atoms 𝓤) → Given 𝓤 H A → (mem : Memory → SProp 𝓤) (run : Routine → Fun 𝓤) (𝓣 : Tables 𝓤 H)
+open-meets : {M : Type 1} (𝓤 : URA M) (H : Heap 𝓤) (A : Atoms 𝓤) → Given 𝓤 H A → (mem : Memory → SProp 𝓤) (run : Routine → Fun 𝓤)
+    (𝓣 : Tables 𝓤 H)
     → Meets 𝓤 H A op.signature (WpFn 𝓤 H (𝓣 .C) (𝓣 .Λ) code.function) (op.spec 𝓤 H A mem run)
 open-meets 𝓤 H A W mem run 𝓣 =
-    walk-meets 𝓤 H A op.ended stayed W (goes-none-slice 𝓤 H A W 1 (0 ∷ []) tt (plain (λ _. u8)) yes, tt) (op.clauses 𝓤 H A mem run) (WpFn 𝓤 H (𝓣 .C) (𝓣 .Λ) code.function) (WpFn-mono 𝓤 H (W .laws) 𝓣 code.function)
-    (walked 𝓤 H A op.ended stayed (op.clauses 𝓤 H A mem run) (WpFn 𝓤 H (𝓣 .C) (𝓣 .Λ) code.function) (λ κs. (slice-vals, tt)) (λ κs. (shr-slice-tells (named 0) (κs .0) u8, tt))
+    walk-meets 𝓤 H A op.ended stayed W (goes-none-slice 𝓤 H A W 1 (0 ∷ []) tt (plain (λ _. u8)) yes, tt) (op.clauses 𝓤 H A mem run)
+    (WpFn 𝓤 H (𝓣 .C) (𝓣 .Λ) code.function) (WpFn-mono 𝓤 H (W .laws) 𝓣 code.function)
+    (walked 𝓤 H A op.ended stayed (op.clauses 𝓤 H A mem run) (WpFn 𝓤 H (𝓣 .C) (𝓣 .Λ) code.function) (λ κs. (slice-vals, tt))
+    (λ κs. (shr-slice-tells (named 0) (κs .0) u8, tt))
     (λ κs qs bounds a g are. via 𝓤 _ (fst∗ 𝓤 _ (emp 𝓤)) (walk 𝓤 H A W mem run (κs .0) (qs .0) (a .0) (𝓣 .C) (𝓣 .Λ) (are .0))))
 
 pub open-spec : {M : Type 1} → stated.statement M

@@ -24,7 +24,8 @@ part-result-end c = search needs
 returns : tie.Need-returns
 returns c = record {
   place = refl;
-  bytes = ap (λ (k : ℕ). take k (drop (c .before .args .at) (c .before .args .s .now))) {x = c .before .args .at + c .before .args .n - c .before .args .at} {y = c .before .args .n} (omega arith);
+  bytes = ap (λ (k : ℕ). take k (drop (c .before .args .at) (c .before .args .s .now)))
+      {x = c .before .args .at + c .before .args .n - c .before .args .at} {y = c .before .args .n} (omega arith);
 }
 
 pub part-spec : {M : Type 1} → statement M

@@ -1,5 +1,7 @@
--- `reader::step` meets its contract: a walk of its MIR, by hand. The struct is taken apart, and `reading::step_at` is called on the slice and the cursor. All that the proof knows of it is that it meets its contract.
--- The struct is Copy: what it owns is kept for the exit, and a copy of what its slice owns goes to the callee, beside the cursor's facts and the lifetime's token, which comes back.
+-- `reader::step` meets its contract: a walk of its MIR, by hand. The struct is taken apart, and `reading::step_at` is called on the slice
+-- and the cursor. All that the proof knows of it is that it meets its contract.
+-- The struct is Copy: what it owns is kept for the exit, and a copy of what its slice owns goes to the callee, beside the cursor's facts
+-- and the lifetime's token, which comes back.
 -- Assumes nothing.
 use mathlib.Core.Path.{_≡_, refl}
 use mathlib.Core.List.{[], _∷_}
@@ -16,7 +18,8 @@ use contract.Monad.{Fun}
 use contract.Running.{givenOf, tables, tablesOf}
 use types.Kit.{Given, ‵, raw, _⊛_, ⋆, _$_, _∵_, !, qed, by, move, keep, use1, use2, split, join, fsplit, fjoin, suffices, frame, done}
 use types.Part.{whole, sub, look-in}
-use types.Run.{look, init, forget, stop, fld, from, load, of-opd, and-then, no-more, assigns, land, returns, enter, alloc1, alloc0, params1, pass1, pass0, free1, free0}
+use types.Run.{look, init, forget, stop, fld, from, load, of-opd, and-then, no-more, assigns, land, returns, enter, alloc1, alloc0}
+use types.Run.{params1, pass1, pass0, free1, free0}
 use sound.WpLaws.{FmC, fmOf, WpFn-mono}
 use denote.RattleType.{owns}
 use denote.Laws.{Is}
@@ -58,7 +61,8 @@ stayed = (stay-none (λ κs. held (κs .0)) yes, tt)
 abbrev StepAt : {M : Type 1} (𝓤 : URA M) (H : Heap 𝓤) (A : Atoms 𝓤) (mem : Memory → SProp 𝓤) (run : Routine → Fun 𝓤) → Contract 𝓤
 StepAt 𝓤 H A mem run = tripleOf 𝓤 H A step-at.signature (step-at.spec 𝓤 H A mem run)
 
-module _ {M : Type 1} (𝓤 : URA M) (H : Heap 𝓤) (A : Atoms 𝓤) (W : Given 𝓤 H A) (mem : Memory → SProp 𝓤) (run : Routine → Fun 𝓤) (κ : Lft) (q : Share) (d : Reader) (d-is : Is (held κ) d (T′.lowered d ∷ [])) where
+module _ {M : Type 1} (𝓤 : URA M) (H : Heap 𝓤) (A : Atoms 𝓤) (W : Given 𝓤 H A) (mem : Memory → SProp 𝓤) (run : Routine → Fun 𝓤) (κ : Lft)
+    (q : Share) (d : Reader) (d-is : Is (held κ) d (T′.lowered d ∷ [])) where
   abbrev vals : Vals step.signature (κ, tt)
   vals = (T′.lowered d ∷ [], tt)
 
@@ -68,15 +72,19 @@ module _ {M : Type 1} (𝓤 : URA M) (H : Heap 𝓤) (A : Atoms 𝓤) (W : Given
   abbrev to : StepAt 𝓤 H A mem run .Ghost
   to = (((κ, tt), (q, tt), tt, (d .patch, (d .cursor, tt)), (slice-val (d .patch) ∷ [], (Cu′.lowered (d .cursor) ∷ [], tt))), tt)
 
-  goes : ent 𝓤 (⋆ 𝓤 H A ((‵ (flft κ q) ⊛ ‵ ftrue) ∷ ‵ (slice κ .own (d .patch) (slice-val (d .patch) ∷ [])) ∷ [])) (StepAt 𝓤 H A mem run .pre to)
+  goes : ent 𝓤 (⋆ 𝓤 H A ((‵ (flft κ q) ⊛ ‵ ftrue) ∷ ‵ (slice κ .own (d .patch) (slice-val (d .patch) ∷ [])) ∷ []))
+      (StepAt 𝓤 H A mem run .pre to)
   goes =
       qed W ((‵ (flft κ q) ⊛ ‵ ftrue) ∷ ‵ (slice κ .own (d .patch) (slice-val (d .patch) ∷ [])) ∷ []) ∵
-      nothing ! $ owned ! Cu.the-row (Is Cu.the-row) (LL.makes Cu.the-type Cu′.the-plain 𝓤 H A) (d .cursor) _ (cursor-of κ d _ d-is) $ fjoin ! $ move ! (2 ∷ 0 ∷ []) $ fjoin ! $ move ! (1 ∷ 0 ∷ []) $ join ! $ frame ! $ done !
+      nothing ! $ owned ! Cu.the-row (Is Cu.the-row) (LL.makes Cu.the-type Cu′.the-plain 𝓤 H A) (d .cursor) _ (cursor-of κ d _ d-is) $
+      fjoin ! $ move ! (2 ∷ 0 ∷ []) $ fjoin ! $ move ! (1 ∷ 0 ∷ []) $ join ! $ frame ! $ done !
 
-  exits : (r : Step) (u : Val) → r ≡ stepAt (now (d .patch)) (d .cursor) → ent 𝓤 (⋆ 𝓤 H A (‵ (S.the-row .own r (u ∷ [])) ∷ (‵ (flft κ q) ⊛ ‵ ftrue) ∷ ‵ (held κ .own d (T′.lowered d ∷ [])) ∷ [])) (Post u)
+  exits : (r : Step) (u : Val) → r ≡ stepAt (now (d .patch)) (d .cursor) → ent 𝓤
+      (⋆ 𝓤 H A (‵ (S.the-row .own r (u ∷ [])) ∷ (‵ (flft κ q) ⊛ ‵ ftrue) ∷ ‵ (held κ .own d (T′.lowered d ∷ [])) ∷ [])) (Post u)
   exits r u e =
       qed W (‵ (S.the-row .own r (u ∷ [])) ∷ (‵ (flft κ q) ⊛ ‵ ftrue) ∷ ‵ (held κ .own d (T′.lowered d ∷ [])) ∷ []) ∵
-      suffices ! _ (ends-at 𝓤 H A step.ended stayed (step.clauses 𝓤 H A mem run) W (((κ, tt), (q, tt), tt, (d, tt), vals), tt) u r (tt, tt) (tt, tt)) $ says ! e $
+      suffices ! _ (ends-at 𝓤 H A step.ended stayed (step.clauses 𝓤 H A mem run) W (((κ, tt), (q, tt), tt, (d, tt), vals), tt) u r
+      (tt, tt) (tt, tt)) $ says ! e $
       move ! (1 ∷ []) $ frame ! $ nothing ! $ move ! (2 ∷ 0 ∷ []) $ fjoin ! $ frame ! $ done !
 
   module _ (C : Calls 𝓤 H) (Λ : Loops 𝓤 H) (fm : FmC 𝓤 H (W .laws) C) (known : Triple 𝓤 (C #step-at) (StepAt 𝓤 H A mem run)) where
@@ -85,24 +93,35 @@ module _ {M : Type 1} (𝓤 : URA M) (H : Heap 𝓤) (A : Atoms 𝓤) (W : Given
         let d-fits = fits 𝓤 H A W κ (named 0) d (T′.lowered d) d-is in
         qed W ((‵ (flft κ q) ⊛ ‵ ftrue) ∷ ‵ (owns (held κ ∷ []) (d, tt) vals) ∷ []) ∵ enter ! C Λ code.function (T′.lowered d ∷ []) _ $
         alloc1 ! (λ l₀. alloc1 ! (λ l₁. alloc1 ! (λ l₂. alloc1 ! (λ l₃. alloc0 ! $ params1 ! $ pass1 ! (init ! 4 refl d-fits) $ pass0 ! $
-        assigns ! (of-opd ! (load ! (from ! (fld ! refl (stop !))) (look-in ! 4 (sub ! 0 refl (whole !))))) (from ! (stop !)) (init ! 2 refl (tt, d-fits .1 .0)) $
-        assigns ! (of-opd ! (load ! (from ! (fld ! refl (stop !))) (look-in ! 4 (sub ! 1 refl (whole !))))) (from ! (stop !)) (init ! 0 refl (tt, d-fits .1 .1 .0)) $
-        move ! (9 ∷ []) $ fsplit ! $ use1 W (‵ (slice κ .own (d .patch) (slice-val (d .patch) ∷ [])) ⊛ ‵ (held κ .own d (T′.lowered d ∷ []))) (part-of 𝓤 H A W κ d (T′.lowered d)) $ split ! $
+        assigns ! (of-opd ! (load ! (from ! (fld ! refl (stop !))) (look-in ! 4 (sub ! 0 refl (whole !))))) (from ! (stop !))
+        (init ! 2 refl (tt, d-fits .1 .0)) $
+        assigns ! (of-opd ! (load ! (from ! (fld ! refl (stop !))) (look-in ! 4 (sub ! 1 refl (whole !))))) (from ! (stop !))
+        (init ! 0 refl (tt, d-fits .1 .1 .0)) $
+        move ! (9 ∷ []) $ fsplit ! $ use1 W (‵ (slice κ .own (d .patch) (slice-val (d .patch) ∷ [])) ⊛ ‵
+        (held κ .own d (T′.lowered d ∷ []))) (part-of 𝓤 H A W κ d (T′.lowered d)) $ split ! $
         -- [the slice's; the struct's; true; _3; …; _0; …; the token]
         move ! (11 ∷ 0 ∷ []) $ use2 W (raw (StepAt 𝓤 H A mem run .pre to)) goes $
-        calls-at ! fm (StepAt 𝓤 H A mem run) known to (and-then ! (load ! (from ! (stop !)) (look ! 5 refl)) (and-then ! (load ! (from ! (stop !)) (look ! 3 refl)) (no-more !))) (λ u.
-        returned ! tt step-at.ended (step-at.clauses 𝓤 H A mem run) to u (λ r ws. r ≡ stepAt (now (d .patch)) (d .cursor)) (λ r ws. refl) (λ r ws e is.
+        calls-at ! fm (StepAt 𝓤 H A mem run) known to (and-then ! (load ! (from ! (stop !)) (look ! 5 refl))
+        (and-then ! (load ! (from ! (stop !)) (look ! 3 refl)) (no-more !))) (λ u.
+        returned ! tt step-at.ended (step-at.clauses 𝓤 H A mem run) to u (λ r ws. r ≡ stepAt (now (d .patch)) (d .cursor)) (λ r ws. refl)
+        (λ r ws e is.
         -- [the result; the token; true; the struct's; true; _3; …; _2; …; _1; …; room for _0; …]
         land ! (from ! (stop !)) (init ! 11 refl (EL.lawful S.the-type S′.the-laws 𝓤 H A W tt .typed r _ is .0)) $
         returns ! (look ! 11 refl) $ forget ! 5 refl $ forget ! 7 refl $ forget ! 9 refl $ forget ! 11 refl $
-        move ! (11 ∷ 12 ∷ []) $ free1 ! $ move ! (9 ∷ 10 ∷ []) $ free1 ! $ move ! (7 ∷ 8 ∷ []) $ free1 ! $ move ! (5 ∷ 6 ∷ []) $ free1 ! $ free0 ! $ keep ! (0 ∷ 1 ∷ 3 ∷ []) $ by ! (exits r u e)))))))
+        move ! (11 ∷ 12 ∷ []) $ free1 ! $ move ! (9 ∷ 10 ∷ []) $ free1 ! $ move ! (7 ∷ 8 ∷ []) $ free1 ! $ move ! (5 ∷ 6 ∷ []) $ free1 !
+        $ free0 ! $ keep ! (0 ∷ 1 ∷ 3 ∷ []) $ by ! (exits r u e)))))))
 
-step-meets : {M : Type 1} (𝓤 : URA M) (H : Heap 𝓤) (A : Atoms 𝓤) → Given 𝓤 H A → (mem : Memory → SProp 𝓤) (run : Routine → Fun 𝓤) (𝓣 : Tables 𝓤 H) → Triple 𝓤 (𝓣 .C #step-at) (StepAt 𝓤 H A mem run)
+step-meets : {M : Type 1} (𝓤 : URA M) (H : Heap 𝓤) (A : Atoms 𝓤) → Given 𝓤 H A → (mem : Memory → SProp 𝓤) (run : Routine → Fun 𝓤)
+    (𝓣 : Tables 𝓤 H) → Triple 𝓤 (𝓣 .C #step-at) (StepAt 𝓤 H A mem run)
     → Meets 𝓤 H A step.signature (WpFn 𝓤 H (𝓣 .C) (𝓣 .Λ) code.function) (step.spec 𝓤 H A mem run)
 step-meets 𝓤 H A W mem run 𝓣 known =
-    walk-meets 𝓤 H A step.ended stayed W (goes-none 𝓤 H A W 1 (λ κs. held (κs .0)) yes (λ κs x f. refl), tt) (step.clauses 𝓤 H A mem run) (WpFn 𝓤 H (𝓣 .C) (𝓣 .Λ) code.function) (WpFn-mono 𝓤 H (W .laws) 𝓣 code.function)
-    (walked 𝓤 H A step.ended stayed (step.clauses 𝓤 H A mem run) (WpFn 𝓤 H (𝓣 .C) (𝓣 .Λ) code.function) (λ κs. (LL.vals (T.the-type (at (κs .0))) (T′.the-laws (at (κs .0))), tt)) (λ κs. (LL.tells (T.the-type (at (κs .0))) (T′.the-laws (at (κs .0))), tt))
-    (λ κs qs bounds a g are. via 𝓤 _ (fst∗ 𝓤 _ (emp 𝓤)) (walk 𝓤 H A W mem run (κs .0) (qs .0) (a .0) (are .0) (𝓣 .C) (𝓣 .Λ) (fmOf 𝓤 H (W .laws) 𝓣) known)))
+    walk-meets 𝓤 H A step.ended stayed W (goes-none 𝓤 H A W 1 (λ κs. held (κs .0)) yes (λ κs x f. refl), tt) (step.clauses 𝓤 H A mem run)
+    (WpFn 𝓤 H (𝓣 .C) (𝓣 .Λ) code.function) (WpFn-mono 𝓤 H (W .laws) 𝓣 code.function)
+    (walked 𝓤 H A step.ended stayed (step.clauses 𝓤 H A mem run) (WpFn 𝓤 H (𝓣 .C) (𝓣 .Λ) code.function)
+    (λ κs. (LL.vals (T.the-type (at (κs .0))) (T′.the-laws (at (κs .0))), tt))
+    (λ κs. (LL.tells (T.the-type (at (κs .0))) (T′.the-laws (at (κs .0))), tt))
+    (λ κs qs bounds a g are. via 𝓤 _ (fst∗ 𝓤 _ (emp 𝓤))
+    (walk 𝓤 H A W mem run (κs .0) (qs .0) (a .0) (are .0) (𝓣 .C) (𝓣 .Λ) (fmOf 𝓤 H (W .laws) 𝓣) known)))
 
 pub step-spec : {M : Type 1} → stated.statement M
 unfolding code.routine tablesOf
@@ -110,4 +129,5 @@ step-spec 𝓤 H 𝓜 𝓖 𝓡 =
     entered 𝓤 H (tripleOf 𝓤 H (𝓖 .A) step.signature (step.spec 𝓤 H (𝓖 .A) (𝓜 .mem) (𝓡 .run)))
     (tables 𝓤 H 𝓜 𝓡 code.env .C) (tables 𝓤 H 𝓜 𝓡 code.env .Λ) #step code.function (code.unfolded 𝓤 H 𝓜 𝓡)
     (step-meets 𝓤 H (𝓖 .A) (givenOf 𝓤 H 𝓜 𝓖) (𝓜 .mem) (𝓡 .run) (tablesOf 𝓤 H 𝓜 (tables 𝓤 H 𝓜 𝓡 code.env))
-    (cited 𝓤 H (StepAt 𝓤 H (𝓖 .A) (𝓜 .mem) (𝓡 .run)) 𝓜 𝓡 code.env #step-at step-at-def.routine code.calls-reading·step-at (step-at-thm.met 𝓤 H 𝓜 𝓖 𝓡)))
+    (cited 𝓤 H (StepAt 𝓤 H (𝓖 .A) (𝓜 .mem) (𝓡 .run)) 𝓜 𝓡 code.env #step-at step-at-def.routine code.calls-reading·step-at
+    (step-at-thm.met 𝓤 H 𝓜 𝓖 𝓡)))
