@@ -141,7 +141,7 @@ module _ {M : Type 1} (𝓤 : URA M) (H : Heap 𝓤) (A : Atoms 𝓤) (W : Given
           -- [the slice's; again; the cursor's; _4; …; _0; …; the token]
           move ! (13 ∷ 0 ∷ []) $ use2 W (raw (Open 𝓤 H A mem run .pre to-open)) goes-open $
           calls-at ! fm (Open 𝓤 H A mem run) (known .opens) to-open
-            (and-then ! (load ! (from ! (stop !)) (look ! 9 refl)) (no-more !)) (λ u₀.
+          (and-then ! (load ! (from ! (stop !)) (look ! 9 refl)) (no-more !)) (λ u₀.
           returned ! tt op.ended (op.clauses 𝓤 H A mem run) to-open u₀ (λ r ws. (r .patch ≡ s) × (r .cursor ≡ start 0)) (λ r ws. refl)
           (λ r₀ _ e₀ is₀.
           -- [the reader; the token; true; the slice's; the cursor's; _4; …; _3; …; _2; …; _1; …; _0; …]
