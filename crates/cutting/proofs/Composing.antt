@@ -11,7 +11,7 @@ use Rattle.writes.proofs.Runs.{length-runThen, length-trailer}
 use Rattle.stretches.specs.Intervals.{Interval, interval, Separate}
 use Rattle.stretches.specs.Intervals.{total}
 use Rattle.cutting.proofs.Shapes.{run-headed}
-use Rattle.cutting.specs.Cutting.{headBytes, part, runBytes, cut}
+use Rattle.cutting.specs.Cutting.{headBytes, part, runBytes, cut, Composing}
 use Rattle.cutting.proofs.Copying.{length-of-part, length-runBytes}
 
 -- ---- lengths
@@ -46,14 +46,7 @@ module _ (W : ℕ) (mem : List ℕ) where
       ∙ ap (λ (z : ℕ). headBytes (W + s) z ++ (part mem s n ++ T)) (length-of-part mem s n h)
       ∙ sym (append-assoc (headBytes (W + s) n) (part mem s n) T)
 
--- ---- the runs of J are to come, from index `at` on, k runs standing before
-
-pub record Composing (W : ℕ) (mem : List ℕ) (J₀ : List Interval) (out₀ : List ℕ) (J : List Interval) (out : List ℕ)
-    (at k : ℕ) : Type 0 where
-  pub separate : Separate (length mem) 0 J
-  pub long : length out ≡ length out₀
-  pub sum : at + total J ≡ total J₀
-  pub same : overwritten out at (runsThen (cut W mem J) (trailer (k + length J))) ≡ overwritten out₀ 0 (encodeRuns (cut W mem J₀))
+-- ---- the first run, the next one, and the trailer
 
 module _ (W : ℕ) (mem : List ℕ) (J₀ : List Interval) (out₀ : List ℕ) (room : total J₀ + 4 ≤ length out₀) where
   pub composing-first : (J : List Interval) → J ≡ J₀ → Separate (length mem) 0 J₀ → Composing W mem J₀ out₀ J out₀ 0 0
@@ -100,6 +93,10 @@ module _ (W : ℕ) (mem : List ℕ) (J₀ : List Interval) (out₀ : List ℕ) (
               ∙ ap (λ (I : List Interval). overwritten out at (runsThen (cut W mem I) (trailer (k + length I)))) (sym e)
               ∙ c .same;
         }
+
+    -- none is to come
+    pub composing-none : J ≡ [] → Composing W mem J₀ out₀ [] out at k
+    composing-none e = subst (λ (I : List Interval). Composing W mem J₀ out₀ I out at k) e c
 
     pub composing-done : J ≡ [] → (out′ : List ℕ) → out′ ≡ overwritten out at (trailer k)
         → (at ≡ total J₀) × (out′ ≡ overwritten out₀ 0 (encodeRuns (cut W mem J₀)))

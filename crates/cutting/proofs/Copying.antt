@@ -1,5 +1,5 @@
 -- Bytes of memory put into a buffer. Assumes nothing.
-use mathlib.Core.Path.{_≡_, sym, ap, ap₂, _∙_, subst}
+use mathlib.Core.Path.{_≡_, refl, sym, ap, ap₂, _∙_, subst}
 use Prim.Native.Nat.{ℕ, _+_, _-_, _≤_, _<_}
 use mathlib.Core.Bool.{true, _&&_}
 use mathlib.Core.List.{List, _∷_, _++_}
@@ -99,6 +99,21 @@ pub length-runBytes : (W : ℕ) (mem : List ℕ) (s n : ℕ) → s + n ≤ lengt
 unfolding runBytes
 length-runBytes W mem s n h =
     omega (arith, length-append (headBytes (W + s) n) (part mem s n), length-headBytes (W + s) n, length-of-part mem s n h)
+
+-- two numbers and a payload; a run, where the numbers are its head
+pub headed-put : (mem m m₁ m₂ m₃ : List ℕ) (at x y p n : ℕ) → p + n ≤ length mem → at + 12 + n ≤ length m
+    → m₁ ≡ overwritten m at (leBytes 8 x) → m₂ ≡ overwritten m₁ (at + 8) (leBytes 4 y) → m₃ ≡ overwritten m₂ (at + 12) (part mem p n)
+    → m₃ ≡ overwritten m at ((leBytes 8 x ++ leBytes 4 y) ++ part mem p n)
+unfolding leBytes
+headed-put mem m m₁ m₂ m₃ at x y p n h r e₁ e₂ e₃ =
+    let H : List ℕ = leBytes 8 x ++ leBytes 4 y in
+    let f : m₂ ≡ overwritten m at H = over-next m m₁ m₂ at (at + 8) (leBytes 8 x) (leBytes 4 y) e₁ refl (omega arith) e₂ in
+    over-next m m₂ m₃ at (at + 12) H (part mem p n) f refl (omega (arith, length-of-part mem p n h)) e₃
+
+pub headed-run : (W : ℕ) (mem m m′ : List ℕ) (at x y p n : ℕ) → leBytes 8 x ++ leBytes 4 y ≡ headBytes (W + p) n
+    → m′ ≡ overwritten m at ((leBytes 8 x ++ leBytes 4 y) ++ part mem p n) → m′ ≡ overwritten m at (runBytes W mem p n)
+unfolding runBytes
+headed-run W mem m m′ at x y p n h e = e ∙ ap (λ (H : List ℕ). overwritten m at (H ++ part mem p n)) h
 
 -- head and payload are a run
 pub run-put : (W : ℕ) (mem m m₁ m₂ : List ℕ) (at a b s l : ℕ) → a < b → b ≤ length mem → at + 12 + (b - a) ≤ length m

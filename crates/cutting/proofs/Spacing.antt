@@ -4,7 +4,7 @@ use Prim.Native.Nat.{ℕ, zero, suc, _+_, _-_, _*_, _≤_, _<_}
 use mathlib.Core.List.{[], _∷_}
 use native.Mathlib.Nat.{suc-mul}
 use native.Mathlib.Omega.{arith}
-use Rattle.stretches.specs.Intervals.{interval, Separate}
+use Rattle.stretches.specs.Intervals.{interval, Separate, total}
 use Rattle.cutting.specs.Cutting.{spaced}
 
 module _ (gap size : ℕ) where
@@ -18,6 +18,25 @@ module _ (gap size : ℕ) where
 
   pub spaced-all : (p n : ℕ) → spaced p gap size (n - 0) ≡ spaced p gap size n
   spaced-all p n = let w : n - 0 ≡ n = omega arith in ap (spaced p gap size) w
+
+  -- none, and one
+  pub spaced-zero : (p n : ℕ) → n ≡ 0 → spaced p gap size n ≡ []
+  unfolding spaced
+  spaced-zero p n e = ap (spaced p gap size) e
+
+  pub spaced-one : (p n : ℕ) → n ≡ 1 → spaced p gap size n ≡ interval p size ∷ []
+  unfolding spaced
+  spaced-one p n e = ap (spaced p gap size) e
+
+  pub total-one : (p n : ℕ) → n ≡ 1 → total (spaced p gap size n) ≡ 12 + size
+  unfolding total
+  total-one p n e = omega (arith, ap total (spaced-one p n e))
+
+  -- the first lies in the window
+  pub spaced-in : (L f p n : ℕ) → 1 ≤ n → Separate L f (spaced p gap size n) → p + size ≤ L
+  unfolding spaced
+  spaced-in L f p zero o a = absurd (omega arith)
+  spaced-in L f p (suc n) o a = a .2
 
   -- they are separate where a byte lies between each two, and the last ends in the window
   pub spaced-separate : (L f p n : ℕ) → 1 ≤ size → size < gap → f ≤ p → p + n * gap ≤ L + (gap - size) → Separate L f (spaced p gap size n)

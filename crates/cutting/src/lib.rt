@@ -1,14 +1,15 @@
 // The patch of stretches in ascending order: heads and trailer, with payloads copied from the memory that was written.
 ghost use mathlib.Core.Path.{_≡_};
-ghost use mathlib.Core.List.{[], _∷_};
-ghost use Prim.Native.Nat.{_+_, _-_, _^_, _<_, _≤_};
+ghost use mathlib.Core.List.{[], _∷_, _++_};
+ghost use Prim.Native.Nat.{_+_, _-_, _%_, _^_, _<_, _≤_};
 ghost use lib.ListN.{length};
+ghost use Rattle.endian.specs.LittleEndian.{leBytes};
 ghost use Rattle.writes.specs.Encoding.{trailer, encodeRuns};
 ghost use Rattle.endian.specs.Overwriting.{overwritten};
 ghost use Rattle.ordering.specs.Keys.{entries};
 ghost use Rattle.stretches.specs.Intervals.{interval, Separate, total};
 ghost use Rattle.stretches.specs.Stretches.{merged, Ordered};
-ghost use Rattle.cutting.specs.Cutting.{headBytes, part, runBytes, cut, spaced};
+ghost use Rattle.cutting.specs.Cutting.{headBytes, part, runBytes, cut, spaced, Composing};
 
 // A mark: 50h and its second byte.
 fn put_mark(out: &mut [u8], at: usize, second: u8)
@@ -94,6 +95,19 @@ fn put_run(out: &mut [u8], at: usize, w: u64, memory: &[u8], a: usize, b: usize)
     copy_at(out, at + 12, memory, a, b - a);
 }
 
+// The run of n bytes from offset p on, its head as two numbers, which the compiler puts by a move each: the mark and the
+// start's lower six bytes; its upper two and the length.
+fn put_headed(out: &mut [u8], at: usize, head: u64, tail: u64, memory: &[u8], p: usize, n: usize)
+    requires { ⌜ (1 ≤ n) × (at + 12 + n ≤ length (now out)) × (p + n ≤ length (now memory)) ⌝ }
+    ensures { λ _.
+        ⌜ now (out .exit) ≡ overwritten (now (out .entry)) at
+        ((leBytes 8 head ++ leBytes 4 tail) ++ part (now (memory .entry)) p n) ⌝ }
+{
+    endian::put64(out, at, head);
+    endian::put32(out, at + 8, tail);
+    copy_at(out, at + 12, memory, p, n);
+}
+
 // The patch of stretches: runs and trailer. Answers its length.
 pub fn compose(w: u64, stretches: &[u32], m: usize, memory: &[u8], out: &mut [u8]) -> usize
     requires { ⌜ Ordered (now stretches) m (length (now memory)) × (w + length (now memory) ≤ 2 ^ 64)
@@ -137,6 +151,100 @@ pub struct Composed {
     pub steps: usize,
 }
 
+// `count` runs of `size` bytes each, `gap` bytes from one start to the next, without a trailer: a step puts one.
+fn put_apart(
+    w: u64,
+    first: usize,
+    gap: usize,
+    size: usize,
+    count: usize,
+    memory: &[u8],
+    out: &mut [u8],
+) -> Composed
+    requires { ⌜ (1 ≤ size) × (gap ≤ 65536) × (length (now memory) ≤ 65536) × (w + length (now memory) ≤ 2 ^ 64)
+        × (total (spaced first gap size count) + 4 ≤ length (now out)) ⌝ }
+    requires { ⌜ Separate (length (now memory)) 0 (spaced first gap size count) ⌝ }
+    ensures { λ r.
+        ⌜ Composing w (now (memory .entry)) (spaced first gap size count) (now (out .entry)) [] (now (out .exit)) (r .length) (r .steps)
+        × (r .steps ≡ count) ⌝ }
+{
+    let mut to = 0;
+    let mut a = first;
+    let mut steps = 0;
+    while steps < count {
+        put_run(out, to, w, memory, a, a + size);
+        to = to + 12 + size;
+        a += gap;
+        steps += 1;
+    }
+    Composed { length: to, steps }
+}
+
+// The same where no start crosses a multiple of 2^48. The upper two bytes of the starts stay the same: one `tail` serves
+// all heads, and `head` goes on by a gap at a time.
+fn put_near(
+    w: u64,
+    first: usize,
+    gap: usize,
+    size: usize,
+    count: usize,
+    memory: &[u8],
+    out: &mut [u8],
+) -> Composed
+    requires { ⌜ (1 ≤ size) × (gap ≤ 65536) × (length (now memory) ≤ 65536) × (w + length (now memory) ≤ 2 ^ 64)
+        × (total (spaced first gap size count) + 4 ≤ length (now out)) ⌝ }
+    requires { ⌜ Separate (length (now memory)) 0 (spaced first gap size count) ⌝ }
+    requires { ⌜ (1 ≤ count) × ((w + first) % 2 ^ 48 + 2 ^ 17 ≤ 2 ^ 48) ⌝ }
+    ensures { λ r.
+        ⌜ Composing w (now (memory .entry)) (spaced first gap size count) (now (out .entry)) [] (now (out .exit)) (r .length) (r .steps)
+        × (r .steps ≡ count) ⌝ }
+{
+    let start = w + first as u64;
+    let tail = start / 0x1_0000_0000_0000 + 0x10000 * size as u64;
+    let mut head = 0x5250 + 0x10000 * (start % 0x1_0000_0000_0000);
+    let mut to = 0;
+    let mut p = first;
+    let mut steps = 0;
+    while steps < count {
+        put_headed(out, to, head, tail, memory, p, size);
+        head += 0x10000 * gap as u64;
+        to = to + 12 + size;
+        p += gap;
+        steps += 1;
+    }
+    Composed { length: to, steps }
+}
+
+// The same by one of the two loops: less than 2^17 bytes lie between the first start and a gap behind the last. Where there
+// is no run, `first` can be any number, and w + first too large.
+fn put_spaced(
+    w: u64,
+    first: usize,
+    gap: usize,
+    size: usize,
+    count: usize,
+    memory: &[u8],
+    out: &mut [u8],
+) -> Composed
+    requires { ⌜ (1 ≤ size) × (gap ≤ 65536) × (length (now memory) ≤ 65536) × (w + length (now memory) ≤ 2 ^ 64)
+        × (total (spaced first gap size count) + 4 ≤ length (now out)) ⌝ }
+    requires { ⌜ Separate (length (now memory)) 0 (spaced first gap size count) ⌝ }
+    ensures { λ r.
+        ⌜ Composing w (now (memory .entry)) (spaced first gap size count) (now (out .entry)) [] (now (out .exit)) (r .length) (r .steps)
+        × (r .steps ≡ count) ⌝ }
+{
+    if count == 0 {
+        return Composed {
+            length: 0,
+            steps: 0,
+        };
+    }
+    if (w + first as u64) % 0x1_0000_0000_0000 < 0xffff_fffe_0000 {
+        return put_near(w, first, gap, size, count, memory, out);
+    }
+    put_apart(w, first, gap, size, count, memory, out)
+}
+
 // The patch of `count` runs of `size` bytes each, `gap` bytes from one start to the next: a step puts one.
 pub fn compose_spaced(
     w: u64,
@@ -155,18 +263,14 @@ pub fn compose_spaced(
         ⌜ now (out .exit) ≡ overwritten (now (out .entry)) 0
         (encodeRuns (cut w (now (memory .entry)) (spaced first gap size count))) ⌝ }
 {
-    let mut to = 0;
-    let mut p = first;
-    let mut steps = 0;
-    while steps < count {
-        put_run(out, to, w, memory, p, p + size);
-        to = to + 12 + size;
-        p += gap;
-        steps += 1;
+    if count == 1 {
+        let length = compose_one(w, first, size, memory, out);
+        return Composed { length, steps: 1 };
     }
-    put_trailer(out, to, count);
+    let put = put_spaced(w, first, gap, size, count, memory, out);
+    put_trailer(out, put.length, put.steps);
     Composed {
-        length: to + 4,
-        steps,
+        length: put.length + 4,
+        steps: put.steps,
     }
 }

@@ -8,7 +8,8 @@ use Rattle.ordering.specs.Keys.{entries}
 use Rattle.stretches.specs.Stretches.{merged}
 use Rattle.stretches.proofs.Growing.{merged-none, merged-all}
 use Rattle.stretches.proofs.Merging.{separate-merged}
-use Rattle.cutting.proofs.Composing.{Composing, composing-first, composing-room, composing-next, composing-left, composing-done}
+use Rattle.cutting.specs.Cutting.{Composing}
+use Rattle.cutting.proofs.Composing.{composing-first, composing-room, composing-next, composing-left, composing-done}
 use Rattle.cutting.proofs.compose.Statement.{statement}
 use Rattle.cutting.proofs.compose.Tie as tie
 

@@ -1,121 +1,71 @@
--- `compose_spaced`: one element after another, each a run. The invariant is `Composing`: with the runs still to come put behind it, the
--- buffer is what all runs make of it. Assumes nothing.
-use mathlib.Core.Path.{_≡_, sym, ap, _∙_}
-use Prim.Native.Nat.{ℕ, _+_, _-_, _≤_}
+-- `compose_spaced`: one run and the trailer, or several and the trailer. No loop of its own. Assumes nothing.
+use mathlib.Core.Path.{refl, sym, ap, _∙_}
+use mathlib.Core.List.{List}
 use native.Mathlib.Omega.{arith}
-use lib.ListN.{length}
 use borrow.Author.Needs.{needs}
-use Rattle.writes.specs.Encoding.{trailer}
+use Rattle.writes.specs.Encoding.{encodeRuns}
 use Rattle.endian.specs.Overwriting.{overwritten}
-use Rattle.cutting.specs.Cutting.{runBytes, spaced}
-use Rattle.cutting.proofs.Composing.{Composing, composing-first, composing-room, composing-next, composing-left, composing-done}
-use Rattle.cutting.proofs.Spacing.{spaced-next, spaced-none, spaced-all}
+use Rattle.stretches.specs.Intervals.{Interval}
+use Rattle.cutting.specs.Cutting.{cut}
+use Rattle.cutting.proofs.Composing.{composing-done}
+use Rattle.cutting.proofs.Spacing.{spaced-one, spaced-in, total-one}
 use Rattle.cutting.proofs.compose_spaced.Statement.{statement}
 use Rattle.cutting.proofs.compose_spaced.Tie as tie
 
-abbrev Inv-loop : tie.InvT-loop
-Inv-loop w first gap size count memory out₀ to₀ p₀ steps₀ out to p steps =
-    (steps ≤ count) × Composing w memory (spaced first gap size count) out₀ (spaced p gap size (count - steps)) out to steps
-
-abbrev μ-loop : tie.MeasureT-loop
-μ-loop w first gap size count memory out₀ to₀ p₀ steps₀ out to p steps = count - steps
-
-abbrev entry : tie.At-loop Inv-loop μ-loop → tie.Start Inv-loop μ-loop
-entry l = l .before .before .before
-
--- an element's turn, and how the loop ended
-abbrev turn : tie.After-slice-known2 Inv-loop μ-loop → tie.In-loop Inv-loop μ-loop
-turn k = k .before .before .before .before
-
-abbrev left : tie.After-slice-known3 Inv-loop μ-loop → tie.After-loop Inv-loop μ-loop
-left k = k .before .before .before .before
-
--- its run fits memory and buffer
-room : (i : tie.In-loop Inv-loop μ-loop)
-    → (i .before .loop .p + entry (i .before) .args .size ≤ length (entry (i .before) .args .memory .now))
-    × (i .before .loop .to + 12 + entry (i .before) .args .size + 4 ≤ length (i .before .loop .out))
-room i =
-    let l = i .before in
-    composing-room _ _ _ _ (entry l .pre .0 .4) _ _ _ _ (l .loop .inv .1) _ _ _ (spaced-next _ _ _ _ _ (i .loop-test .taken))
-
-loop-holds : tie.Need-loop-holds Inv-loop μ-loop
-loop-holds c =
-    let p = c .before .before .pre in
-    (omega arith, composing-first _ _ _ _ (p .0 .4) _ (spaced-all _ _ _ _) (p .1))
-
-add-put-run : tie.Need-add-put-run Inv-loop μ-loop
-add-put-run c = omega (arith, room (c .before))
-
-put-run-requires : tie.Need-put-run-requires Inv-loop μ-loop
-put-run-requires c κs =
+compose-one-requires : tie.Need-compose-one-requires
+compose-one-requires c κs =
     let i = c .before in
-    let p = entry (i .before) .pre .0 in
-    let r = room i in
-    (omega (arith, r), omega (arith, p .0), omega (arith, r), p .3)
+    let s = i .before .before .before in
+    let a = s .args in
+    let p = s .pre in
+    let t = total-one (a .gap) (a .size) (a .first) (a .count) (i .if1 .taken) in
+    (p .0 .0, spaced-in _ _ _ _ _ _ (omega arith) (p .1), omega (arith, t, p .0 .4), p .0 .3)
 
-add-to : tie.Need-add-to Inv-loop μ-loop
-add-to c = let i = turn c in omega (arith, room i, entry (i .before) .pre .0)
-
-add-to-2 : tie.Need-add-to-2 Inv-loop μ-loop
-add-to-2 c = let i = turn c in omega (arith, room i, entry (i .before) .pre .0)
-
-add-p : tie.Need-add-p Inv-loop μ-loop
-add-p c = let i = turn c in omega (arith, room i, entry (i .before) .pre .0)
-
-add-steps : tie.Need-add-steps Inv-loop μ-loop
-add-steps c = let i = turn c in omega (arith, room i, entry (i .before) .pre .0)
-
-loop-less : tie.Need-loop-less Inv-loop μ-loop
-loop-less c = let i = turn c in omega (arith, room i, entry (i .before) .pre .0)
-
-loop-again : tie.Need-loop-again Inv-loop μ-loop
-loop-again c =
-    let i = turn c in
-    let l = i .before .loop in
-    let a = entry (i .before) .args in
-    let w : (l .p + a .size) - l .p ≡ a .size = omega arith in (
-      omega arith,
-      composing-next _ _ _ _ (entry (i .before) .pre .0 .4) _ _ _ _ (l .inv .1) _ _ _ _ _ (spaced-next _ _ _ _ _ (i .loop-test .taken))
-          (c .before .before .put-run .ensures
-          ∙ ap (λ (n : ℕ). overwritten (l .out) (l .to) (runBytes (a .w) (a .memory .now) (l .p) n)) w)
-          (omega arith),
-    )
-
-put-trailer-requires : tie.Need-put-trailer-requires Inv-loop μ-loop
-put-trailer-requires c κs =
-    let l = c .before .before in omega (arith, composing-left _ _ _ _ (entry l .pre .0 .4) _ _ _ _ (l .loop .inv .1))
-
-add-t19 : tie.Need-add-t19 Inv-loop μ-loop
-add-t19 c = let l = left c .before in omega (arith, composing-left _ _ _ _ (entry l .pre .0 .4) _ _ _ _ (l .loop .inv .1))
-
-same-length : tie.Need-same-length Inv-loop μ-loop
+same-length : tie.Need-same-length
 same-length c = search needs
 
-returns : tie.Need-returns Inv-loop μ-loop
+returns : tie.Need-returns
 returns c =
-    let a = entry (left c .before) in
-    let l = left c .before .loop in
-    let e : l .steps ≡ a .args .count = omega (arith, l .inv .0) in
-    let d = composing-done _ _ _ _ (a .pre .0 .4) _ _ _ _ (l .inv .1) (spaced-none _ _ _ _ _ (omega arith)) _
-    (c .before .before .put-trailer .ensures ∙ ap (λ (k : ℕ). overwritten (l .out) (l .to) (trailer k)) (sym e)) in
-    ((omega (arith, d .0), e), d .1)
+    let o = c .before .before in
+    let i = o .before .before in
+    let a = i .before .before .before .args in
+    let e = i .if1 .taken in
+    let t = total-one (a .gap) (a .size) (a .first) (a .count) e in
+    let q = o .compose-one .ensures in (
+      (omega (arith, t, q .0), sym e),
+      q .1 ∙ ap (λ (J : List Interval). overwritten (a .out .now) 0 (encodeRuns (cut (a .w) (a .memory .now) J)))
+          (sym (spaced-one _ _ _ _ e)),
+    )
+
+put-spaced-requires : tie.Need-put-spaced-requires
+put-spaced-requires c κs = search needs
+
+put-trailer-requires : tie.Need-put-trailer-requires
+put-trailer-requires c κs = search needs
+
+add-t18 : tie.Need-add-t18
+add-t18 c = search needs
+
+same-length-2 : tie.Need-same-length-2
+same-length-2 c = search needs
+
+returns-2 : tie.Need-returns-2
+returns-2 c =
+    let t = c .before .before .before in
+    let s = t .before .before .before .before in
+    let p = s .before .before .before .before .before .pre in
+    let d = composing-done _ _ _ _ (p .0 .4) _ _ _ _ (s .put-spaced .ensures .0) refl _ (t .put-trailer .ensures) in
+    ((omega (arith, d .0), s .put-spaced .ensures .1), d .1)
 
 pub compose-spaced-spec : {M : Type 1} → statement M
 compose-spaced-spec =
     tie.close
     (tie.spec
-    Inv-loop
-    μ-loop
-    loop-holds
-    add-put-run
-    put-run-requires
-    add-to
-    add-to-2
-    add-p
-    add-steps
-    loop-less
-    loop-again
-    put-trailer-requires
-    add-t19
+    compose-one-requires
     same-length
-    returns)
+    returns
+    put-spaced-requires
+    put-trailer-requires
+    add-t18
+    same-length-2
+    returns-2)
