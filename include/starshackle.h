@@ -5,14 +5,15 @@
  * Link with libstarshackle.a, which `rt staticlib starshackle` makes. It needs nothing but the C library.
  *
  * Every function answers a verdict's number, and writes all entries of the array that it is lent for its answer (`answer` or
- * `fields`), whatever the verdict. Every verdict but STARSHACKLE_DONE is a refusal: then memory and patch are as they came.
+ * `fields`), whatever the verdict. Every verdict but STARSHACKLE_DONE is a refusal: then memory, patch and list are as they came.
  *
  * What a caller owes; nothing checks it:
  * - `fields` points to 8, `x` to 31, `answer` to 5 numbers, in starshackle_store to 6, aligned as uint64_t is. None is ever null.
- * - `z`, `p`, `memory` and `patch` point to as many bytes as the length behind them says, or more. They need no alignment. With
- *   length 0 they may be null. (Tried with each of them, in each function that takes it: tests/c/test_starshackle.c.)
- * - What a call writes (`fields` of starshackle_decode, `answer`, `memory`, `patch` of starshackle_store) overlaps nothing else that
- *   the call is lent: memory and patch don't overlap either. What it only reads may overlap.
+ * - `z`, `p`, `memory`, `patch`, `first` and `second` point to as many bytes as the length behind them says, or more. They need no
+ *   alignment. `list` points to as many numbers, aligned as uint64_t is. With length 0 they may be null. (Tried with each of them, in
+ *   each function that takes it: tests/c/test_starshackle.c.)
+ * - What a call writes (`fields` of starshackle_decode, `answer`, `memory`, `patch` of starshackle_store, `list`) overlaps nothing else
+ *   that the call is lent: memory and patch don't overlap either. What it only reads may overlap.
  * - Nobody else writes what is lent until the call is back.
  *
  * Nothing is asked of the content: every number, byte and length gets its verdict. No pointer is kept, no memory is allocated, and
@@ -28,7 +29,8 @@
 extern "C" {
 #endif
 
-/* Verdicts, in the order in which they are checked, in which 12 stands before 8: the first that is due is answered. */
+/* Verdicts, in the order in which they are checked, in which 12 stands before 8: the first that is due is answered. In
+   starshackle_compare 9 stands before 8. */
 enum starshackle_verdict {
     STARSHACKLE_DONE = 0,
     STARSHACKLE_LENGTH = 1,    /* vb is none of 16, 32, 64, 128, 256; with EARLY on and STREAMING off: no multiple of 16 from 16 to 256 */
@@ -40,8 +42,8 @@ enum starshackle_verdict {
     STARSHACKLE_STACK = 6,     /* SP is the base, is checked, and isn't a multiple of 16 */
     STARSHACKLE_FAULT = 7,     /* an active element has a byte outside the window */
     STARSHACKLE_OVERLAP = 12,  /* two active elements share a byte, and STRICT is on */
-    STARSHACKLE_NO_ROOM = 8,   /* the patch buffer is shorter than the patch */
-    STARSHACKLE_BAD_PATCH = 9, /* the bytes are no patch */
+    STARSHACKLE_NO_ROOM = 8,   /* the patch buffer is shorter than the patch, or the list too short for the differences */
+    STARSHACKLE_BAD_PATCH = 9, /* the bytes are no patch; of two strings one isn't */
     STARSHACKLE_OUTSIDE = 10,  /* a run isn't wholly in the window */
     STARSHACKLE_FIELDS = 11    /* no word has these fields */
 };
@@ -124,6 +126,13 @@ enum starshackle_length {
     STARSHACKLE_LARGEST_STORE_PATCH = 6660, /* no store's patch is longer: a buffer for starshackle_store with room for all */
     STARSHACKLE_LARGEST_PATCH = 7172,       /* no patch is longer */
     STARSHACKLE_LARGEST_WINDOW = 65536      /* no window is longer */
+};
+
+/* The list of starshackle_compare. */
+enum starshackle_list {
+    STARSHACKLE_ENTRY_NUMBERS = 3,      /* numbers of an entry: the address, the first patch's byte there, the second's */
+    STARSHACKLE_NOT_WRITTEN = 256,      /* stands for the byte of a patch that doesn't write the address */
+    STARSHACKLE_MOST_DIFFERENCES = 2048 /* no two patches have more: a list of so many times 3 numbers has room for all */
 };
 
 /*
@@ -270,6 +279,32 @@ uint64_t starshackle_apply(uint64_t base, uint8_t *memory, size_t memory_len, co
  * patch may be null with length 0; answer never. answer overlaps nothing else of the call.
  */
 uint64_t starshackle_judge(const uint8_t *patch, size_t patch_len, uint64_t answer[5]);
+
+/*
+ * Where two patches differ: each address that one of them writes and the other doesn't, or to which they write different bytes. There
+ * is none exactly when the two strings are equal.
+ *
+ *   first   the first patch's bytes, all of them; only read
+ *   first_len  how many bytes they are
+ *   second  the second patch's bytes, all of them; only read
+ *   second_len  how many bytes they are
+ *   list    where the differences go: an entry is STARSHACKLE_ENTRY_NUMBERS numbers, which are the address, the first's byte and the
+ *           second's, 0 to 255, or STARSHACKLE_NOT_WRITTEN where it doesn't write the address
+ *   list_len  how many numbers the list has, with room for list_len / 3 entries, rounded down. STARSHACKLE_ENTRY_NUMBERS *
+ *           STARSHACKLE_MOST_DIFFERENCES, which is 6,144, is always enough
+ *   answer  for the answer
+ *
+ * DONE       answer[2] entries; else 0. They are the first of the list, by ascending address; numbers behind the last are as they came.
+ * BAD_PATCH  answer[0] is 0 if the first string is no patch, whatever the second is, and 1 if the second isn't and the first is; else
+ *            0. starshackle_judge tells what is wrong with it.
+ * NO_ROOM    answer[2] the entries that are needed: more than list_len / 3; else 0. So a call with list_len 0 counts them. Only of two
+ *            patches: BAD_PATCH comes before it, though its number is higher.
+ *
+ * first, second and list may be null with length 0; answer never. list and answer overlap neither each other nor anything else of the
+ * call; first and second may overlap or be the same.
+ */
+uint64_t starshackle_compare(const uint8_t *first, size_t first_len, const uint8_t *second, size_t second_len, uint64_t *list,
+                             size_t list_len, uint64_t answer[5]);
 
 #ifdef __cplusplus
 }

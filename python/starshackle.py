@@ -47,8 +47,8 @@ from typing import List, Optional, Union
 
 __all__ = [
     "Verdict", "Flags", "Edition", "Extension", "Machine", "Store", "Decoded", "Encoded", "Stored", "Element", "Applied", "Judged",
-    "decode", "encode", "store", "element", "apply", "judge",
-    "LENGTHS", "EARLY_LENGTHS", "LARGEST_STORE_PATCH", "LARGEST_PATCH", "LARGEST_WINDOW",
+    "Difference", "Compared", "decode", "encode", "store", "element", "apply", "judge", "compare",
+    "LENGTHS", "EARLY_LENGTHS", "LARGEST_STORE_PATCH", "LARGEST_PATCH", "LARGEST_WINDOW", "MOST_DIFFERENCES",
 ]
 
 LENGTHS = (16, 32, 64, 128, 256)
@@ -69,6 +69,9 @@ LARGEST_PATCH = 7172
 LARGEST_WINDOW = 65536
 """No window is longer."""
 
+MOST_DIFFERENCES = 2048
+"""No two patches differ at more addresses."""
+
 
 class Verdict(IntEnum):
     """What a call answers, in the order in which it is checked, in which 12 stands before 8; all but DONE are refusals."""
@@ -83,7 +86,7 @@ class Verdict(IntEnum):
     FAULT = 7  # an active element has a byte outside the window
     OVERLAP = 12  # two active elements share a byte, and STRICT is on
     NO_ROOM = 8  # the patch buffer is shorter than the patch
-    BAD_PATCH = 9  # the bytes are no patch
+    BAD_PATCH = 9  # the bytes are no patch; of two strings one isn't
     OUTSIDE = 10  # a run isn't wholly in the window
     FIELDS = 11  # no word has these fields
 
@@ -278,6 +281,27 @@ class Judged(_Answer):
     bytes: int
 
 
+@dataclass(frozen=True)
+class Difference:
+    """An address where two patches differ, and the byte that each writes there; None where it doesn't write the address."""
+
+    address: int
+    first: Optional[int]
+    second: Optional[int]
+
+
+@dataclass(frozen=True)
+class Compared(_Answer):
+    """Where two patches differ.
+
+    DONE: the differences, by ascending address; there is none exactly when the strings are equal. BAD_PATCH: which string is no patch, 0
+    for the first, whatever the second is, and 1 for the second. What a verdict doesn't have is None.
+    """
+
+    string: Optional[int]
+    differences: Optional[List[Difference]]
+
+
 # ---- the library
 
 _Fields = ctypes.c_uint64 * 8
@@ -297,6 +321,7 @@ _PARAMETERS = {
     "starshackle_element": [_SIZE, _U64, *_REGISTERS, _U32, _U64, _Answers],
     "starshackle_apply": [_U64, *_SLICE, *_SLICE, _Answers],
     "starshackle_judge": [*_SLICE, _Answers],
+    "starshackle_compare": [*_SLICE, *_SLICE, *_SLICE, _Answers],
 }
 
 
@@ -507,3 +532,34 @@ def judge(patch):
     answer = _Answers()
     verdict = Verdict(_library.starshackle_judge(*string, answer))
     return Judged(verdict, *answer[:4])
+
+
+_ENTRY_NUMBERS, _NOT_WRITTEN = 3, 256
+_List = ctypes.c_uint64 * (_ENTRY_NUMBERS * MOST_DIFFERENCES)
+
+
+def compare(first: Union[bytes, bytearray], second: Union[bytes, bytearray]) -> Compared:
+    """Each address where two patches differ, by ascending address, and the byte that each writes there. Answers `Compared`.
+
+    The model is lent a list with room for every difference, so that NO_ROOM is never answered. `judge` tells where a string that is no
+    patch stops being one.
+
+    >>> first = bytes.fromhex("5052 0510000000000000 0200 a4a5 5045 0100")
+    >>> second = bytes.fromhex("5052 0510000000000000 0100 a7 5045 0100")
+    >>> for difference in compare(first, second).differences:
+    ...     print(difference)
+    Difference(address=4101, first=164, second=167)
+    Difference(address=4102, first=165, second=None)
+    >>> compare(first, first)
+    Compared(verdict=<Verdict.DONE: 0>, string=None, differences=[])
+    >>> compare(first, second[:-1])
+    Compared(verdict=<Verdict.BAD_PATCH: 9>, string=1, differences=None)
+    """
+    strings = (*_read("first", first), *_read("second", second))
+    entries, answer = _List(), _Answers()
+    verdict = Verdict(_library.starshackle_compare(*strings, entries, len(entries), answer))
+    if verdict is not Verdict.DONE:
+        return Compared(verdict, answer[0], None)
+    numbers = iter(entries[:_ENTRY_NUMBERS * answer[2]])
+    sides = ((address, *(None if side == _NOT_WRITTEN else side for side in both)) for address, *both in zip(numbers, numbers, numbers))
+    return Compared(verdict, None, [Difference(*difference) for difference in sides])

@@ -10,6 +10,7 @@ int main()
     right = right && starshackle_encode(fields, answer) == STARSHACKLE_DONE && answer[4] == 0xA16F6000;
     right = right && starshackle_judge(empty, sizeof empty, answer) == STARSHACKLE_DONE;
     right = right && starshackle_apply(0, 0, 0, empty, sizeof empty, answer) == STARSHACKLE_DONE;
+    right = right && starshackle_compare(empty, sizeof empty, empty, sizeof empty, 0, 0, answer) == STARSHACKLE_DONE;
     right = right && starshackle_store(0, 0, x, 0, 0, 0, 0, 0, 0, 0, 0, 0, 0, 0, stored) == STARSHACKLE_LENGTH;
     right = right && starshackle_element(0, 0, x, 0, 0, 0, 0, 0, 0, 0, answer) == STARSHACKLE_LENGTH;
     return right ? 0 : 1;

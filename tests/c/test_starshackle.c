@@ -1167,6 +1167,181 @@ static void patches(void)
     BAD_PATCH(patch, length, 512, 512 * 13);
 }
 
+/* ---- two patches */
+
+/* A list with numbers before and behind it that no call may touch. */
+enum { MOST_LIST = STARSHACKLE_ENTRY_NUMBERS * STARSHACKLE_MOST_DIFFERENCES };
+
+static uint64_t list_area[FENCE + MOST_LIST + FENCE], list_before[FENCE + MOST_LIST + FENCE];
+static uint64_t *const list = list_area + FENCE;
+
+static void fill_list(void)
+{
+    size_t i;
+    for (i = 0; i < sizeof list_area / sizeof *list_area; i++)
+        list_area[i] = UINT64_C(0x0123456789ABCDEF) * (i + 1);
+    memcpy(list_before, list_area, sizeof list_area);
+}
+
+/* An entry that is expected, so that `list_untouched` compares the rest too. */
+static void expect_entry(size_t number, uint64_t address, uint64_t first, uint64_t second)
+{
+    uint64_t *const entry = list_before + FENCE + number * STARSHACKLE_ENTRY_NUMBERS;
+    entry[0] = address, entry[1] = first, entry[2] = second;
+}
+
+static int list_untouched(void)
+{
+    return memcmp(list_before, list_area, sizeof list_area) == 0;
+}
+
+/* A patch of one run, and its bytes. */
+static struct {
+    uint8_t bytes[12 + 1024 + 4];
+    size_t length;
+} run_of;
+
+static void run_at(uint64_t start, const char *bytes, size_t count)
+{
+    static const uint8_t mark[2] = {0x50, 0x52}, end[4] = {0x50, 0x45, 1, 0};
+    size_t i;
+    memcpy(run_of.bytes, mark, 2);
+    for (i = 0; i < 8; i++)
+        run_of.bytes[2 + i] = (uint8_t)(start >> 8 * i);
+    run_of.bytes[10] = (uint8_t)count, run_of.bytes[11] = (uint8_t)(count >> 8);
+    memcpy(run_of.bytes + 12, bytes, count);
+    memcpy(run_of.bytes + 12 + count, end, 4);
+    run_of.length = 12 + count + 4;
+}
+
+/* The example beside a run of these bytes, with so much room. */
+static uint64_t beside(uint64_t start, const char *bytes, size_t count, size_t room)
+{
+    fill_list();
+    run_at(start, bytes, count);
+    return starshackle_compare(EXAMPLE, sizeof EXAMPLE, run_of.bytes, run_of.length, list, room, answer);
+}
+
+/* Two strings of which one is no patch, with any room. */
+static void not_both(int line, const uint8_t *first, size_t first_len, const uint8_t *second, size_t second_len, uint64_t which)
+{
+    size_t room;
+    for (room = 0; room <= 9; room++) {
+        fill_list();
+        expect_answer(line, "comparing", starshackle_compare(first, first_len, second, second_len, list, room, answer),
+                      STARSHACKLE_BAD_PATCH, which, 0, 0, 0, 0, UNWRITTEN);
+        check(line, list_untouched(), "the list is as it came");
+    }
+}
+
+#define NOT_BOTH(first, first_len, second, second_len, which) not_both(__LINE__, first, first_len, second, second_len, which)
+
+static const uint8_t NO_RUN[4] = {0x50, 0x45, 0, 0};
+
+/* Every verdict, and what the list holds then. */
+static void differences(void)
+{
+    const uint64_t none = STARSHACKLE_NOT_WRITTEN;
+    uint8_t same[sizeof EXAMPLE];
+    size_t room;
+
+    /* nothing differs: of equal strings, in one place or in two */
+    memcpy(same, EXAMPLE, sizeof same);
+    fill_list();
+    ANSWERS(starshackle_compare(EXAMPLE, sizeof EXAMPLE, same, sizeof same, list, MOST_LIST, answer), STARSHACKLE_DONE, 0, 0, 0, 0, 0);
+    ANSWERS(starshackle_compare(EXAMPLE, sizeof EXAMPLE, EXAMPLE, sizeof EXAMPLE, list, 0, answer), STARSHACKLE_DONE, 0, 0, 0, 0, 0);
+    ANSWERS(starshackle_compare(NO_RUN, sizeof NO_RUN, NO_RUN, sizeof NO_RUN, list, 3, answer), STARSHACKLE_DONE, 0, 0, 0, 0, 0);
+    CHECK(list_untouched());
+
+    /* A1 A3 at 1000h and A4 at 1005h beside A3 A2 at 1001h: three entries, in every list from none to longer */
+    for (room = 0; room <= 14; room++) {
+        if (room / 3 < 3) {
+            ANSWERS(beside(0x1001, "\xA3\xA2", 2, room), STARSHACKLE_NO_ROOM, 0, 0, 3, 0, 0);
+        } else {
+            ANSWERS(beside(0x1001, "\xA3\xA2", 2, room), STARSHACKLE_DONE, 0, 0, 3, 0, 0);
+            expect_entry(0, 0x1000, 0xA1, none);
+            expect_entry(1, 0x1002, none, 0xA2);
+            expect_entry(2, 0x1005, 0xA4, none);
+        }
+        CHECK(list_untouched());
+    }
+
+    /* the gap filled, which joins the runs, with another byte at 1001h */
+    ANSWERS(beside(0x1000, "\xA1\xFF\1\2\0\xA4", 6, MOST_LIST), STARSHACKLE_DONE, 0, 0, 4, 0, 0);
+    expect_entry(0, 0x1001, 0xA3, 0xFF);
+    expect_entry(1, 0x1002, none, 1);
+    expect_entry(2, 0x1003, none, 2);
+    expect_entry(3, 0x1004, none, 0);
+    CHECK(list_untouched());
+
+    /* beside no run, either way round */
+    fill_list();
+    ANSWERS(starshackle_compare(NO_RUN, sizeof NO_RUN, EXAMPLE, sizeof EXAMPLE, list, 9, answer), STARSHACKLE_DONE, 0, 0, 3, 0, 0);
+    expect_entry(0, 0x1000, none, 0xA1);
+    expect_entry(1, 0x1001, none, 0xA3);
+    expect_entry(2, 0x1005, none, 0xA4);
+    CHECK(list_untouched());
+    ANSWERS(starshackle_compare(EXAMPLE, sizeof EXAMPLE, NO_RUN, sizeof NO_RUN, list, 9, answer), STARSHACKLE_DONE, 0, 0, 3, 0, 0);
+    expect_entry(0, 0x1000, 0xA1, none);
+    expect_entry(1, 0x1001, 0xA3, none);
+    expect_entry(2, 0x1005, 0xA4, none);
+    CHECK(list_untouched());
+
+    /* the ends of the addresses */
+    ANSWERS(beside(0, "\x77", 1, 12), STARSHACKLE_DONE, 0, 0, 4, 0, 0);
+    expect_entry(0, 0, none, 0x77);
+    expect_entry(1, 0x1000, 0xA1, none);
+    expect_entry(2, 0x1001, 0xA3, none);
+    expect_entry(3, 0x1005, 0xA4, none);
+    CHECK(list_untouched());
+    ANSWERS(beside(UINT64_MAX, "\x77", 1, 12), STARSHACKLE_DONE, 0, 0, 4, 0, 0);
+    expect_entry(0, 0x1000, 0xA1, none);
+    expect_entry(1, 0x1001, 0xA3, none);
+    expect_entry(2, 0x1005, 0xA4, none);
+    expect_entry(3, UINT64_MAX, none, 0x77);
+    CHECK(list_untouched());
+
+    /* bytes that are no patch, the first named when both aren't, and 9 before 8 */
+    NOT_BOTH(EXAMPLE, sizeof EXAMPLE - 1, EXAMPLE, sizeof EXAMPLE, 0);
+    NOT_BOTH(EXAMPLE, sizeof EXAMPLE, EXAMPLE, sizeof EXAMPLE - 1, 1);
+    NOT_BOTH(EXAMPLE, sizeof EXAMPLE - 1, EXAMPLE, sizeof EXAMPLE - 1, 0);
+    NOT_BOTH(changed(16, 0x02), sizeof EXAMPLE, NO_RUN, sizeof NO_RUN, 0);
+    NOT_BOTH(NO_RUN, sizeof NO_RUN, changed(16, 0x02), sizeof EXAMPLE, 1);
+}
+
+/* As many entries as there can be, and lists with room for one less, just so many, and one number more. */
+static void most_differences(void)
+{
+    static uint8_t second[MOST_PATCH];
+    size_t length, i, room;
+
+    fill();
+    length = runs_of(512, 2);
+    memcpy(second, patch, length);
+    for (i = 0; i < 512; i++) /* at the two addresses behind, which no run of the first has */
+        second[14 * i + 2] = (uint8_t)(second[14 * i + 2] + 2);
+    for (room = MOST_LIST - 3; room <= MOST_LIST + 1; room++) {
+        const uint64_t none = STARSHACKLE_NOT_WRITTEN;
+        const int enough = room >= MOST_LIST;
+        fill_list();
+        ANSWERS(starshackle_compare(patch, length, second, length, list, room, answer),
+                enough ? STARSHACKLE_DONE : STARSHACKLE_NO_ROOM, 0, 0, STARSHACKLE_MOST_DIFFERENCES, 0, 0);
+        for (i = 0; enough && i < STARSHACKLE_MOST_DIFFERENCES; i++) {
+            const uint64_t byte = (uint8_t)(i / 4 + 3 * (i % 2) + 1);
+            expect_entry(i, 0x1000 + i, i % 4 < 2 ? byte : none, i % 4 < 2 ? none : byte);
+        }
+        CHECK(list_untouched());
+    }
+
+    /* 512 runs of which one byte differs, the last */
+    memcpy(second, patch, length);
+    second[length - 5] ^= 1;
+    fill_list();
+    ANSWERS(starshackle_compare(patch, length, second, length, list, 3, answer), STARSHACKLE_DONE, 0, 0, 1, 0, 0);
+    expect_entry(0, 0x1000 + 4 * 511 + 1, (uint8_t)(511 + 4), (uint8_t)(511 + 4) ^ 1);
+    CHECK(list_untouched());
+}
+
 /* ---- null pointers with length 0 */
 
 static void nulls(void)
@@ -1209,6 +1384,12 @@ static void nulls(void)
     ANSWERS(starshackle_apply(UINT64_MAX, NULL, 0, EMPTY, sizeof EMPTY, answer), STARSHACKLE_DONE, 0, 0, 0, 0, 0);
     ANSWERS(starshackle_apply(0x1000, NULL, 0, EXAMPLE, sizeof EXAMPLE, answer), STARSHACKLE_OUTSIDE, 0, 0x1000, 0, 0, 0);
     CHECK(untouched());
+
+    REFUSED(starshackle_compare(NULL, 0, EMPTY, sizeof EMPTY, NULL, 0, answer), STARSHACKLE_BAD_PATCH);
+    ANSWERS(starshackle_compare(EMPTY, sizeof EMPTY, NULL, 0, NULL, 0, answer), STARSHACKLE_BAD_PATCH, 1, 0, 0, 0, 0);
+    REFUSED(starshackle_compare(NULL, 0, NULL, 0, NULL, 0, answer), STARSHACKLE_BAD_PATCH);
+    ANSWERS(starshackle_compare(EMPTY, sizeof EMPTY, EMPTY, sizeof EMPTY, NULL, 0, answer), STARSHACKLE_DONE, 0, 0, 0, 0, 0);
+    ANSWERS(starshackle_compare(EMPTY, sizeof EMPTY, EXAMPLE, sizeof EXAMPLE, NULL, 0, answer), STARSHACKLE_NO_ROOM, 0, 0, 3, 0, 0);
 }
 
 /* ---- both rules for the vector length */
@@ -1292,6 +1473,8 @@ int main(void)
     overlaps();
     faults();
     patches();
+    differences();
+    most_differences();
     nulls();
     editions();
     printf("C interface: %lu checks passed\n", checks);

@@ -9,8 +9,9 @@ import struct
 import unittest
 
 import starshackle
-from starshackle import (EARLY_LENGTHS, LARGEST_PATCH, LARGEST_STORE_PATCH, LARGEST_WINDOW, LENGTHS, Applied, Decoded, Edition, Element,
-                         Encoded, Extension, Flags, Judged, Machine, Store, Stored, Verdict, apply, decode, element, encode, judge, store)
+from starshackle import (EARLY_LENGTHS, LARGEST_PATCH, LARGEST_STORE_PATCH, LARGEST_WINDOW, LENGTHS, MOST_DIFFERENCES, Applied, Compared,
+                         Decoded, Difference, Edition, Element, Encoded, Extension, Flags, Judged, Machine, Store, Stored, Verdict, apply,
+                         compare, decode, element, encode, judge, store)
 
 SCATTER = 0xE4428001  # st1b { z1.s }, p0, [x0, z2.s, uxtw]
 STRIDED = 0xA1606000  # st1d { z0.d, z8.d }, pn8, [x0]
@@ -518,6 +519,60 @@ class Refusals(unittest.TestCase):
             self.assertEqual(memory, b"\x77" * length)
 
 
+class Differences(unittest.TestCase):
+    """Where two patches differ."""
+
+    EMPTY = b"PE\0\0"
+
+    def differ(self, first, second, *differences):
+        """The differences, and those of the exchanged strings; nothing holds on to bytearrays."""
+        done = Compared(Verdict.DONE, None, [Difference(*difference) for difference in differences])
+        exchanged = [Difference(address, other, one) for address, one, other in differences]
+        self.assertEqual(compare(first, second), done)
+        self.assertTrue(done.done)
+        lent = bytearray(second), bytearray(first)
+        self.assertEqual(compare(*lent), Compared(Verdict.DONE, None, exchanged))
+        for one in lent:
+            one.append(0)
+        self.assertEqual(lent, (second + b"\0", first + b"\0"))
+
+    def test_equal(self):
+        for patch in [EXAMPLE, self.EMPTY]:
+            self.differ(patch, patch)
+
+    def test_bytes_and_addresses(self):
+        self.differ(EXAMPLE, EXAMPLE.replace(b"\xa3", b"\x00"), (0x1001, 0xA3, 0))
+        self.differ(EXAMPLE, self.EMPTY, (0x1000, 0xA1, None), (0x1001, 0xA3, None), (0x1005, 0xA4, None))
+        joined = encoding({0x1000 + k: byte for k, byte in enumerate(b"\xa1\xa3\1\2\3\xff")})
+        self.differ(EXAMPLE, joined, (0x1002, None, 1), (0x1003, None, 2), (0x1004, None, 3), (0x1005, 0xA4, 0xFF))
+
+    def test_ends(self):
+        self.differ(encoding({0: 1, 2**64 - 1: 2}), encoding({0: 3, 2**64 - 2: 4}), (0, 1, 3), (2**64 - 2, None, 4), (2**64 - 1, 2, None))
+
+    def test_most(self):
+        first, second = ({base + 2 * k: k % 256 for k in range(512)} for base in [0, 5000])
+        first.update((address + 1, 7) for address in list(first))
+        second.update((address + 1, 8) for address in list(second))
+        compared = compare(encoding(first), encoding(second))
+        self.assertEqual(len(compared.differences), MOST_DIFFERENCES)
+        self.assertEqual([difference.address for difference in compared.differences], [*sorted(first), *sorted(second)])
+
+    def test_no_patch(self):
+        for bad in [b"", EXAMPLE[:-1], EXAMPLE + b"\0"]:
+            self.assertEqual(compare(bad, EXAMPLE), Compared(Verdict.BAD_PATCH, 0, None))
+            self.assertEqual(compare(EXAMPLE, bad), Compared(Verdict.BAD_PATCH, 1, None))
+            self.assertEqual(compare(bad, bad), Compared(Verdict.BAD_PATCH, 0, None))
+            self.assertFalse(compare(bad, EXAMPLE).done)
+
+    def test_arguments(self):
+        for bad in [None, [0] * 4, "PE", 4, memoryview(bytes(4))]:
+            for name, lent in [("first", (bad, EXAMPLE)), ("second", (EXAMPLE, bad))]:
+                with self.assertRaisesRegex(TypeError, rf"\b{name}\b"):
+                    compare(*lent)
+        one = bytearray(EXAMPLE)  # what is only read may be shared
+        self.assertEqual(compare(one, one).differences, [])
+
+
 class Arguments(unittest.TestCase):
     """What can't be lent is refused before the call, and says which argument it is."""
 
@@ -696,6 +751,26 @@ class Random(unittest.TestCase):
                 self.assertEqual(memory, after)
         self.assertTrue(all(count >= 100 for count in counts.values()), counts)
 
+    def test_pairs(self):
+        counts = dict.fromkeys(["equal", "differ", 0, 1], 0)
+        for _ in range(1000):
+            sets = [self.writes(0x1000, self.random.choice([8, 100, 3000]))] * 2
+            sets[1] = dict(self.random.choice([sets[0], self.writes(0x1000, 100)]))
+            for address in self.random.sample(sorted(sets[1]), min(len(sets[1]), self.random.choice([0, 1, 5]))):
+                sets[1].update({address: self.random.randrange(256)} if self.random.random() < 0.7 else {address + 1: 7})
+            strings = [self.damaged(encoding(one)) if self.random.random() < 0.3 else encoding(one) for one in sets]
+            sets, compared = [read(string) for string in strings], compare(*strings)
+            if None in sets:
+                self.assertEqual(compared, Compared(Verdict.BAD_PATCH, sets.index(None), None))
+                counts[compared.string] += 1
+                continue
+            wanted = [(address, *(one.get(address) for one in sets)) for address in sorted({*sets[0], *sets[1]})]
+            wanted = [Difference(*one) for one in wanted if one[1] != one[2]]
+            self.assertEqual(compared, Compared(Verdict.DONE, None, wanted))
+            self.assertEqual(not wanted, strings[0] == strings[1])
+            counts["differ" if wanted else "equal"] += 1
+        self.assertTrue(all(count >= 50 for count in counts.values()), counts)
+
     def machine(self, base, length):
         """A machine whose stores are often near the window, in each class."""
         chosen = self.random
@@ -809,8 +884,8 @@ class Declarations(unittest.TestCase):
         if count:
             number, type_ = self.NUMBERS[entry]
             return [f"{const}{number} {name}[{count}]"], [type_ * int(count)]
-        self.assertEqual(entry, "u8")
-        return [f"{const}uint8_t *{name}", f"size_t {name}_len"], [ctypes.c_void_p, ctypes.c_size_t]
+        entry = {"u8": "uint8_t", "u64": "uint64_t"}[entry]
+        return [f"{const}{entry} *{name}", f"size_t {name}_len"], [ctypes.c_void_p, ctypes.c_size_t]
 
     def source(self):
         """The functions of the source, with names and types of their parameters."""
@@ -819,7 +894,7 @@ class Declarations(unittest.TestCase):
         for function, listed in re.findall(r'extern "C" fn (\w+)\(([^)]*)\) -> u64', text):
             functions[function] = [part.strip().split(": ", 1) for part in listed.split(",") if part.strip()]
         self.assertEqual(text.count('extern "C"'), len(functions))
-        self.assertEqual(len(functions), 6)
+        self.assertEqual(len(functions), 7)
         return functions
 
     def test_declarations(self):
@@ -840,7 +915,8 @@ class Declarations(unittest.TestCase):
             return f"{name}: {kind}"
         pointer = "*mut" if kind.startswith("&mut ") else "*const"
         pointed = kind.replace("&mut ", "").replace("&", "")
-        return f"{name}: {pointer} u8, {name}_len: usize" if pointed == "[u8]" else f"{name}: {pointer} {pointed}"
+        entry = re.fullmatch(r"\[(u8|u64)\]", pointed)
+        return f"{name}: {pointer} {entry[1]}, {name}_len: usize" if entry else f"{name}: {pointer} {pointed}"
 
     def test_rust_declarations(self):
         text = (self.ROOT / "rust/starshackle/src/ffi.rs").read_text(encoding="utf-8")
@@ -852,7 +928,9 @@ class Declarations(unittest.TestCase):
     def test_numbers(self):
         header = (self.ROOT / "include/starshackle.h").read_text(encoding="utf-8")
         numbers = {name: int(number) for name, number in re.findall(r"^    STARSHACKLE_(\w+) = (\d+)", header, re.M)}
-        here = {name: getattr(starshackle, name) for name in ["LARGEST_STORE_PATCH", "LARGEST_PATCH", "LARGEST_WINDOW"]}
+        names = ["LARGEST_STORE_PATCH", "LARGEST_PATCH", "LARGEST_WINDOW", "MOST_DIFFERENCES"]
+        here = {name: getattr(starshackle, name) for name in names}
+        here.update((name, getattr(starshackle, f"_{name}")) for name in ["ENTRY_NUMBERS", "NOT_WRITTEN"])
         for enum, prefix in [(Verdict, ""), (Flags, "FLAG_"), (Extension, "EXTENSION_")]:
             here.update((prefix + name, int(value)) for name, value in enum.__members__.items())
         here["FLAG_EARLY"] = int(Edition.EARLY)

@@ -4,3 +4,4 @@ pub mod Standing
 pub mod Turning
 pub mod Outcomes
 pub mod Statements
+pub mod Examples

@@ -1,14 +1,15 @@
 -- What comparing answers, from what its tests say; each answer is the only one. Assumes nothing.
 use mathlib.Core.Path.{_≡_, refl, sym, ap, ap₂, _∙_, subst}
-use Prim.Native.Nat.{ℕ, suc, _+_, _*_, _≤_, _<_}
+use Prim.Native.Nat.{ℕ, suc, _+_, _*_, _/_, _≤_, _<_}
 use mathlib.Core.List.{List, [], _∷_, _++_}
 use mathlib.Core.Bool.{Bool, true, false}
 use mathlib.Core.Option.{Option, none, some}
 use native.Mathlib.Omega.{arith}
 use lib.ListN.{length, drop}
 use lib.Dec.{eqb}
+use borrow.Author.Tests.{lt-ltb, le-ltb}
 use Rattle.endian.specs.LittleEndian.{Bytes}
-use Rattle.endian.proofs.Order.{three, absurdly}
+use Rattle.endian.proofs.Order.{three, two, absurdly}
 use Rattle.writes.specs.Sets.{ByteWrite}
 use Rattle.writes.specs.Encoding.{PatchOf}
 use Rattle.patch.specs.Answers.{judgedNumber}
@@ -19,7 +20,7 @@ use Rattle.patch.specs.declared.Judged.the-variants.{Patch, NoPatch as Other}
 use Rattle.patch.proofs.Patches.{patch-one, patch-set, patch-judged, judged-set}
 use Rattle.comparing.specs.Differences.{Sides, sides, Difference, differ, Ascends, listedAt, Lists}
 use Rattle.comparing.specs.Comparing.{numbersOf, IsPatch, NoPatch, Differing, ComparedTo}
-use Rattle.comparing.specs.Merging.{differences, put, Patches}
+use Rattle.comparing.specs.Merging.{differences, put, lacking, Patches}
 use Rattle.comparing.specs.declared.Compared.{Compared}
 use Rattle.comparing.specs.declared.Compared.the-variants.{Done, NoRoom, FirstBad, SecondBad}
 use Rattle.comparing.proofs.Merged.{differences-listed, listed-here, listed-there}
@@ -67,6 +68,25 @@ compare-first s t l h = (h, refl)
 pub compare-second : (s t l : List ℕ) → IsPatch s → NoPatch t → ComparedTo s t l SecondBad l
 unfolding ComparedTo
 compare-second s t l g h = (g, h, refl)
+
+-- what is lacking, and that nothing is
+pub lacking-some : (m n : ℕ) → m < 3 * n → n ≡ lacking m n
+unfolding lacking
+lacking-some m n h = simp (lt-ltb m (3 * n) h)
+
+pub lacking-none : (m n : ℕ) → 3 * n ≤ m → 0 ≡ lacking m n
+unfolding lacking
+lacking-none m n h = simp (le-ltb m (3 * n) h)
+
+pub lacks-some : (m n r : ℕ) → r ≡ lacking m n → 0 < r → (r ≡ n) × (m < 3 * n)
+lacks-some m n r e h =
+    two m (3 * n) (λ l. (e ∙ sym (lacking-some m n l), l)) (λ l. absurd (omega (arith, e, lacking-none m n l)))
+
+pub lacks-none : (m n r : ℕ) → r ≡ lacking m n → r ≤ 0 → 3 * n ≤ m
+lacks-none m n r e h = two m (3 * n) (λ l. absurd (omega (arith, e, lacking-some m n l))) (λ l. l)
+
+pub thirds : (m n : ℕ) → m ≡ 3 * n → m / 3 ≡ n
+thirds m n e = omega arith
 
 pub compare-short : (s t l : List ℕ) (n : ℕ) → Patches s t → n ≡ length (differences (setOf s) (setOf t)) → length l < 3 * n
     → ComparedTo s t l (NoRoom n) l

@@ -6,10 +6,11 @@ use native.Mathlib.Omega.{arith}
 use native.Mathlib.Nat.{add-zero}
 use lib.ListN.{length, take, drop, length-drop, length-append}
 use lib.Seq.{drop-drop, take-nil}
-use Rattle.writes.specs.Sets.{ByteWrite, write, Run, run, writesAt, writesOf}
+use Rattle.writes.specs.Sets.{ByteWrite, write, Run, run, runs, writesAt, writesOf}
 use Rattle.writes.specs.Sizes.{maxRuns}
+use Rattle.endian.proofs.Order.{absurdly}
 use Rattle.endian.proofs.Parts.{length-part}
-use Rattle.reading.specs.Reader.{past, stepAt, Found, whole, broken, before, onStep, scan, from, readAt}
+use Rattle.reading.specs.Reader.{past, stepAt, Stands, Found, whole, broken, before, onStep, scan, from, readAt}
 use Rattle.reading.specs.Stops.{runsIn}
 use Rattle.reading.specs.declared.Step.{Step}
 use Rattle.reading.specs.declared.Step.the-variants.{Next, End, Bad}
@@ -17,7 +18,9 @@ use Rattle.reading.specs.declared.Cursor.{Cursor}
 use Rattle.reading.proofs.Loops.{rest}
 use Rattle.reading.proofs.Steps.{step-next-inv}
 use Rattle.patch.specs.Placing.{runsRead, setOf}
-use Rattle.comparing.specs.Merging.{leftOf, Fit, Fronted, Started, Skipped}
+use Rattle.patch.proofs.Patches.{patch-read}
+use Rattle.comparing.specs.Comparing.{IsPatch}
+use Rattle.comparing.specs.Merging.{Ends, leftOf, Fit, Fronted, Started, Skipped}
 use Rattle.comparing.specs.declared.fronts.Front.{Front}
 
 -- ---- the run that a cursor comes to
@@ -33,43 +36,56 @@ runs-before : (r : Run) (o : Found) → runsIn (before r o) ≡ r ∷ runsIn o
 runs-before r (whole rs e) = refl
 runs-before r (broken rs a) = refl
 
-pub front-next : (s : List ℕ) (c : Cursor) (st at n : ℕ) (c′ : Cursor) → c .runs ≤ maxRuns → stepAt s c ≡ Next st at n c′
+never-whole : {X : Type 0} (rs rs′ : List Run) (a e : ℕ) → broken rs a ≡ whole rs′ e → X
+never-whole rs rs′ a e q = absurdly cc
+
+-- where the steps end at a trailer, none is bad
+pub stands : (s : List ℕ) (c : Cursor) → c .runs ≤ maxRuns → Ends s c → Stands s c
+unfolding onStep
+stands s c h e q = never-whole [] (e .0) (c .at) (e .1) (sym (rest-step s c Bad h q) ∙ e .2)
+
+ends-behind : (s : List ℕ) (r : Run) (c c′ : Cursor) → rest s c ≡ before r (rest s c′) → Ends s c → Ends s c′
+ends-behind s r c c′ q e = go (rest s c′) refl
+  where
+    go : (o : Found) → rest s c′ ≡ o → Ends s c′
+    go (whole rs d) w = (rs, d, w)
+    go (broken rs a) w = never-whole (r ∷ rs) (e .0) a (e .1) (sym (q ∙ ap (before r) w) ∙ e .2)
+
+pub front-next : (s : List ℕ) (c : Cursor) (st at n : ℕ) (c′ : Cursor) → c .runs ≤ maxRuns → Ends s c → stepAt s c ≡ Next st at n c′
     → Fronted s c (record { address = st; at = at; left = n; cursor = c′ })
 unfolding onStep past rest leftOf writesOf
-front-next s c st at n c′ h e =
+front-next s c st at n c′ h d e =
     let k = step-next-inv s c st at n c′ e in
     let ad = k .admitted in
     let hd = k .head in
     let er : c′ .runs ≡ c .runs + 1 = ap (λ (z : Cursor). z .runs) (k .next) in
     let w : maxRuns - c .runs ≡ suc maxRuns - c′ .runs = omega arith in
     let p = run st (take n (drop at s)) in
-    let q : runsIn (rest s c) ≡ p ∷ runsIn (rest s c′) =
-    ap runsIn (rest-step s c (Next st at n c′) h e ∙ ap (λ (z : ℕ). before p (scan z s c′)) w) ∙ runs-before p (rest s c′) in
+    let b : rest s c ≡ before p (rest s c′) = rest-step s c (Next st at n c′) h e ∙ ap (λ (z : ℕ). before p (scan z s c′)) w in
+    let q : runsIn (rest s c) ≡ p ∷ runsIn (rest s c′) = ap runsIn b ∙ runs-before p (rest s c′) in
     record {
       fit = record {
         stands = omega (arith, length-drop (c .at) s, hd .long, hd .fits, k .index);
         top = ad .top;
         few = omega (arith, ad .few);
+        ends = ends-behind s p c c′ b d;
         last = λ z. absurd (omega (arith, ad .one));
       };
       same = sym (ap writesOf q);
     }
 
-ended : (s : List ℕ) (c : Cursor) → c .runs ≤ maxRuns → runsIn (rest s c) ≡ []
+pub front-end : (s : List ℕ) (c : Cursor) (e : ℕ) → c .runs ≤ maxRuns → Ends s c → stepAt s c ≡ End e
     → Fronted s c (record { address = 0; at = 0; left = 0; cursor = c })
-unfolding leftOf writesAt
-ended s c h e =
-    record { fit = record { stands = omega arith; top = omega arith; few = h; last = λ z. e }; same = refl }
+unfolding onStep leftOf writesAt
+front-end s c e h d q =
+    let last : runsIn (rest s c) ≡ [] = ap runsIn (rest-step s c (End e) h q) in
+    record { fit = record { stands = omega arith; top = omega arith; few = h; ends = d; last = λ z. last }; same = refl }
 
-pub front-end : (s : List ℕ) (c : Cursor) (e : ℕ) → c .runs ≤ maxRuns → stepAt s c ≡ End e
-    → Fronted s c (record { address = 0; at = 0; left = 0; cursor = c })
-unfolding onStep
-front-end s c e h q = ended s c h (ap runsIn (rest-step s c (End e) h q))
-
-pub front-bad : (s : List ℕ) (c : Cursor) → c .runs ≤ maxRuns → stepAt s c ≡ Bad
-    → Fronted s c (record { address = 0; at = 0; left = 0; cursor = c })
-unfolding onStep
-front-bad s c h q = ended s c h (ap runsIn (rest-step s c Bad h q))
+pub patch-ends : (s : List ℕ) → IsPatch s → Ends s (from 0)
+unfolding readAt rest
+patch-ends s h =
+    let w : suc maxRuns - 0 ≡ suc maxRuns = omega arith in
+    (runs (h .0), length s, ap (λ (n : ℕ). scan n s (from 0)) w ∙ patch-read (h .0) s (h .1))
 
 pub started : (s : List ℕ) (r : Front) → Fronted s (from 0) r → Started s r
 unfolding setOf runsRead readAt rest
@@ -113,6 +129,7 @@ skip-part s f k a at n h l ea et en =
         stands = omega (arith, h .stands);
         top = omega (arith, h .top);
         few = h .few;
+        ends = h .ends;
         last = λ z. absurd (omega arith);
       };
       same =

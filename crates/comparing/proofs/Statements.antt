@@ -1,12 +1,12 @@
 -- Proofs of what is promised in specs/Statements.antt. Assumes nothing.
 use mathlib.Core.Path.{_≡_, refl, sym, ap, ap₂, _∙_, subst}
-use Prim.Native.Nat.{ℕ, suc, _+_, _*_, _≤_, _<_}
+use Prim.Native.Nat.{ℕ, zero, suc, _+_, _*_, _≤_, _<_}
 use mathlib.Core.List.{List, [], _∷_, _++_}
 use mathlib.Core.Bool.{Bool, true, false, cond}
 use mathlib.Core.Logic.{_↔_}
 use mathlib.Core.Option.{Option, none, some}
 use native.Mathlib.Omega.{arith}
-use lib.ListN.{length, drop}
+use lib.ListN.{length, drop, getD}
 use lib.Dec.{eqb}
 use borrow.Author.Tests.{eq-eqb, ne-eqb, eqb-true, eqb-false}
 use Rattle.endian.specs.LittleEndian.{Bytes}
@@ -22,15 +22,17 @@ use Rattle.patch.specs.declared.Judged.{Judged}
 use Rattle.patch.specs.declared.Judged.the-variants.{Patch, NoPatch as Other}
 use Rattle.patch.proofs.Patches.{patch-one, patch-judged, judged-set}
 use Rattle.comparing.specs.Differences.{Sides, sides, Difference, differ, alike, unlike, Ascends, listedAt, Lists}
-use Rattle.comparing.specs.Comparing.{numbersOf, IsPatch, NoPatch, Differing, ComparedTo}
+use Rattle.comparing.specs.Comparing.{sideNumber, numbersOf, IsPatch, NoPatch, Differing, ComparedTo}
+use Rattle.comparing.specs.Answers.{comparedNumber, comparedNumbers}
 use Rattle.comparing.specs.Merging.{differences, put, Patches}
-use Rattle.comparing.specs.Statements.{comparedNumber, OneOutcome, RefusalKeepsList, ListsEach, OneList, NothingDiffers, FewEntries}
-use Rattle.comparing.specs.Statements.{exchanged, OtherWayRound, JudgesAlike}
+use Rattle.comparing.specs.Statements.{OneOutcome, RefusalKeepsList, ListsEach, OneList, NothingDiffers, FewEntries}
+use Rattle.comparing.specs.Statements.{exchanged, OtherWayRound, JudgesAlike, CountsEntries, EntriesInNumbers}
 use Rattle.comparing.specs.declared.Compared.{Compared}
 use Rattle.comparing.specs.declared.Compared.the-variants.{Done, NoRoom, FirstBad, SecondBad}
 use Rattle.comparing.proofs.Turning.{small-of}
 use Rattle.comparing.proofs.Outcomes.{is-patch, no-patch, patches, differing, compare-first, compare-second, compare-short}
 use Rattle.comparing.proofs.Outcomes.{compare-done, lists-one, differing-one}
+use Rattle.comparing.proofs.Merged.{listed-here, listed-there}
 use Rattle.comparing.proofs.Zipping.{put-all}
 
 -- ---- both sides at an address
@@ -261,30 +263,90 @@ zero-judged : (s : List ℕ) → (j : Judged) → judged s ≡ j → IsPatch s �
 zero-judged s (Patch k n) q f = refl
 zero-judged s (Other k a) q f = let w = patch-judged (f .0) s (f .1) in absurdly cc
 
-first-told : (s t l : List ℕ) (r : Compared) (l′ : List ℕ) → ComparedTo s t l r l′ → r ≡ FirstBad → NoPatch s
+-- by the numbers of an answer
+first-told : (s t l : List ℕ) (r : Compared) (l′ : List ℕ) → ComparedTo s t l r l′ → comparedNumber r ≡ 9
+    → comparedNumbers r ≡ 0 ∷ 0 ∷ 0 ∷ 0 ∷ 0 ∷ [] → NoPatch s
 unfolding ComparedTo
-first-told s t l (Done n) l′ h e = absurdly cc
-first-told s t l (NoRoom n) l′ h e = absurdly cc
-first-told s t l FirstBad l′ h e = h .0
-first-told s t l SecondBad l′ h e = absurdly cc
+first-told s t l (Done n) l′ h e q = absurd (omega (arith, e))
+first-told s t l (NoRoom n) l′ h e q = absurd (omega (arith, e))
+first-told s t l FirstBad l′ h e q = h .0
+first-told s t l SecondBad l′ h e q = absurdly cc
 
-second-told : (s t l : List ℕ) (r : Compared) (l′ : List ℕ) → ComparedTo s t l r l′ → r ≡ SecondBad → IsPatch s × NoPatch t
+second-told : (s t l : List ℕ) (r : Compared) (l′ : List ℕ) → ComparedTo s t l r l′ → comparedNumber r ≡ 9
+    → comparedNumbers r ≡ 1 ∷ 0 ∷ 0 ∷ 0 ∷ 0 ∷ [] → IsPatch s × NoPatch t
 unfolding ComparedTo
-second-told s t l (Done n) l′ h e = absurdly cc
-second-told s t l (NoRoom n) l′ h e = absurdly cc
-second-told s t l FirstBad l′ h e = absurdly cc
-second-told s t l SecondBad l′ h e = (h .0, h .1)
+second-told s t l (Done n) l′ h e q = absurd (omega (arith, e))
+second-told s t l (NoRoom n) l′ h e q = absurd (omega (arith, e))
+second-told s t l FirstBad l′ h e q = absurdly cc
+second-told s t l SecondBad l′ h e q = (h .0, h .1)
 
 pub judges-alike : JudgesAlike
 judges-alike s t l hs ht r l′ h = (
   (
-    (λ e. nine-judged s hs (judged s) refl (first-told s t l r l′ h e)),
-    (λ e. only-first s t l (judged-nine s hs (judged s) refl e) r l′ h .0),
+    (λ e. nine-judged s hs (judged s) refl (first-told s t l r l′ h (e .0) (e .1))),
+    (λ e.
+        let w = only-first s t l (judged-nine s hs (judged s) refl e) r l′ h .0 in
+        (ap comparedNumber w, ap comparedNumbers w)),
   ),
   (
     (λ e.
-        let w = second-told s t l r l′ h e in
+        let w = second-told s t l r l′ h (e .0) (e .1) in
         (zero-judged s (judged s) refl (w .0), nine-judged t ht (judged t) refl (w .1))),
-    (λ e. only-second s t l (judged-zero s hs (judged s) refl (e .0)) (judged-nine t ht (judged t) refl (e .1)) r l′ h .0),
+    (λ e.
+        let w = only-second s t l (judged-zero s hs (judged s) refl (e .0)) (judged-nine t ht (judged t) refl (e .1)) r l′ h .0 in
+        (ap comparedNumber w, ap comparedNumbers w)),
   ),
 )
+
+-- ---- the entries, in numbers
+
+pub counts-entries : CountsEntries
+counts-entries s t l ds d r l′ h =
+    two (length l) (3 * length ds)
+    (λ m.
+    let w = only-short s t l ds d m r l′ h .0 in
+    let n : comparedNumber r ≡ 8 = ap comparedNumber w in
+    (((λ e. absurd (omega arith)), (λ e. absurd (omega arith))), ((λ e. m), (λ e. n)), ap comparedNumbers w))
+    (λ m.
+    let w = only-done s t l ds d m r l′ h .0 in
+    let n : comparedNumber r ≡ 0 = ap comparedNumber w in
+    (((λ e. m), (λ e. n)), ((λ e. absurd (omega arith)), (λ e. absurd (omega arith))), ap comparedNumbers w))
+
+-- the k-th entry: its address is listed, with its two sides
+record Entry (ds : List Difference) (f k : ℕ) : Type 0 where
+  one : Option ℕ
+  other : Option ℕ
+  above : f ≤ getD (numbersOf ds) (3 * k) 0
+  listed : listedAt (getD (numbersOf ds) (3 * k) 0) ds ≡ some (sides one other)
+  first : getD (numbersOf ds) (3 * k + 1) 0 ≡ sideNumber one
+  second : getD (numbersOf ds) (3 * k + 2) 0 ≡ sideNumber other
+
+entry : (ds : List Difference) (f k : ℕ) → Ascends f ds → k < length ds → Entry ds f k
+unfolding numbersOf
+entry [] f k g h = absurd (omega arith)
+entry (differ a o p ∷ ds) f zero g h =
+    record { one = o; other = p; above = g .0; listed = listed-here a a o p ds refl; first = refl; second = refl }
+entry (differ a o p ∷ ds) f (suc k) g h =
+    let r = entry ds (suc a) k (g .1) (omega arith) in
+    let l : List ℕ = a ∷ sideNumber o ∷ sideNumber p ∷ numbersOf ds in
+    let at : (i : ℕ) → getD l (3 * suc k + i) 0 ≡ getD (numbersOf ds) (3 * k + i) 0 =
+    λ i. ap (λ (z : ℕ). getD l z 0) {x = 3 * suc k + i} {y = suc (suc (suc (3 * k + i)))} (omega arith) in
+    let x : getD l (3 * suc k) 0 ≡ getD (numbersOf ds) (3 * k) 0 =
+    ap (λ (z : ℕ). getD l z 0) {x = 3 * suc k} {y = suc (suc (suc (3 * k)))} (omega arith) in
+    record {
+      one = r .one;
+      other = r .other;
+      above = omega (arith, x, r .above, g .0);
+      listed =
+          ap (λ (z : ℕ). listedAt z (differ a o p ∷ ds)) x
+          ∙ listed-there (getD (numbersOf ds) (3 * k) 0) a o p ds (λ e. omega (arith, r .above)) ∙ r .listed;
+      first = at 1 ∙ r .first;
+      second = at 2 ∙ r .second;
+    }
+
+pub entries-in-numbers : EntriesInNumbers
+entries-in-numbers S T ds d k h =
+    let r = entry ds 0 k (d .ascends) h in
+    let x = getD (numbersOf ds) (3 * k) 0 in
+    let w = unlike-some (lookup x S) (lookup x T) (r .one) (r .other) (sym (d .each x) ∙ r .listed) in
+    (r .first ∙ ap sideNumber (w .1), r .second ∙ ap sideNumber (w .2))

@@ -298,11 +298,14 @@ listed-first l s t f g h m a b = record {
 }
 
 module _ (l₀ s t l : List ℕ) (f g : Front) (at : ℕ) (r : Stretch) (c : Cut f g r) (k : Listed l₀ s t l f g at) where
-  pub listed-last : r .len ≡ 0 → l ≡ put 0 l₀ (differences (setOf s) (setOf t))
+  pub listed-last : r .len ≡ 0
+      → (at ≡ 3 * length (differences (setOf s) (setOf t))) × (l ≡ put 0 l₀ (differences (setOf s) (setOf t)))
   unfolding put
   listed-last e =
-      let h = k .counted in
-      ap (put at l) (sym (none-differ s t f g r c (h .fit-one) (h .fit-two) e)) ∙ k .same
+      let h = k .counted in (
+        omega (arith, k .index, counted-last s t f g (k .n) r c h e),
+        ap (put at l) (sym (none-differ s t f g r c (h .fit-one) (h .fit-two) e)) ∙ k .same,
+      )
 
   module _ (p q : List ℕ) (ep : p ≡ take (r .one) (drop (f .at) s)) (eq : q ≡ take (r .two) (drop (g .at) t))
       (f′ g′ : Front) (sf : Skipped s f (r .one) f′) (sg : Skipped t g (r .two) g′) where

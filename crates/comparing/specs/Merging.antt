@@ -7,9 +7,10 @@ use mathlib.Core.Path.{_≡_}
 use lib.Dec.{eqb, ltb}
 use lib.ListN.{length, take, drop, getD, set}
 use Rattle.endian.specs.LittleEndian.{Bytes}
-use Rattle.writes.specs.Sets.{ByteWrite, write, writesAt, writesOf}
+use Rattle.writes.specs.Sets.{ByteWrite, write, Run, writesAt, writesOf}
 use Rattle.writes.specs.Sizes.{maxRuns}
 use Rattle.writes.specs.Encoding.{PatchOf}
+use Rattle.reading.specs.Reader.{whole}
 use Rattle.reading.specs.Stops.{runsIn}
 use Rattle.reading.specs.declared.Cursor.{Cursor}
 use Rattle.reading.proofs.Loops.{rest}
@@ -56,7 +57,15 @@ unfoldable pub put : ℕ → List ℕ → List Difference → List ℕ
 put k l [] = l
 put k l (differ a o p ∷ ds) = put (k + 3) (set (set (set l k a) (k + 1) (sideNumber o)) (k + 2) (sideNumber p)) ds
 
+-- how many entries there are where a list of so many numbers is too short for them, else 0
+unfoldable pub lacking : ℕ → ℕ → ℕ
+lacking numbers n = cond (ltb numbers (3 * n)) n 0
+
 -- ---- where a side stands
+
+-- from a cursor on, runs up to a trailer are still to be read
+abbrev pub Ends : List ℕ → Cursor → Type 0
+Ends s c = (rs : List Run) × (e : ℕ) × (rest s c ≡ whole rs e)
 
 -- what is left of a side: the run's part, and the runs behind it
 unfoldable pub leftOf : List ℕ → Front → List ByteWrite
@@ -67,6 +76,7 @@ pub record Fit (s : List ℕ) (f : Front) : Type 0 where
   pub stands : f .at + f .left ≤ length s
   pub top : f .address + f .left ≤ 2 ^ 64
   pub few : f .cursor .runs ≤ maxRuns
+  pub ends : Ends s (f .cursor)
   pub last : f .left ≡ 0 → runsIn (rest s (f .cursor)) ≡ []
 
 -- at the run that a cursor comes to

@@ -1,26 +1,19 @@
 -- What is promised of comparing, beside the contract of `compare`. Each has its proof in proofs/Statements.antt. A byte string is a list
 -- of numbers below 256. Assumes nothing.
-use Prim.Native.Nat.{ℕ, _≤_}
+use Prim.Native.Nat.{ℕ, _+_, _*_, _≤_, _<_}
 use mathlib.Core.List.{List, [], _∷_}
 use mathlib.Core.Logic.{_↔_}
 use mathlib.Core.Option.{Option, some}
 use mathlib.Core.Path.{_≡_}
-use lib.ListN.{length}
+use lib.ListN.{length, getD}
 use Rattle.endian.specs.LittleEndian.{Bytes}
 use Rattle.writes.specs.Sets.{ByteWrite, lookup}
 use Rattle.patch.specs.Judging.{judged}
 use Rattle.patch.specs.Answers.{judgedNumber}
 use Rattle.comparing.specs.Differences.{sides, Difference, differ, listedAt, Lists}
-use Rattle.comparing.specs.Comparing.{Differing, ComparedTo}
+use Rattle.comparing.specs.Comparing.{sideNumber, numbersOf, Differing, ComparedTo}
+use Rattle.comparing.specs.Answers.{comparedNumber, comparedNumbers}
 use Rattle.comparing.specs.declared.Compared.{Compared}
-use Rattle.comparing.specs.declared.Compared.the-variants.{Done, NoRoom, FirstBad, SecondBad}
-
--- "Done is number 0"; "refuse with 9 if either isn't a patch"; "too short a list gets 8"
-abbrev pub comparedNumber : Compared → ℕ
-comparedNumber (Done n) = 0
-comparedNumber (NoRoom n) = 8
-comparedNumber FirstBad = 9
-comparedNumber SecondBad = 9
 
 -- for every input exactly one answer and one list
 abbrev pub OneOutcome : Type 0
@@ -64,9 +57,25 @@ exchanged (differ a o p ∷ ds) = differ a p o ∷ exchanged ds
 abbrev pub OtherWayRound : Type 0
 OtherWayRound = (s t : List ℕ) (ds : List Difference) → Differing s t ds → Differing t s (exchanged ds)
 
--- "later calls that read patches judge alike" (document 01); "say which (the first when both are bad)"
+-- "later calls that read patches judge alike" (document 01); "say which (the first when both are bad)", in the numbers that leave the call
 abbrev pub JudgesAlike : Type 0
 JudgesAlike =
     (s t l : List ℕ) → Bytes s → Bytes t → (r : Compared) (l′ : List ℕ) → ComparedTo s t l r l′
-    → ((r ≡ FirstBad) ↔ (judgedNumber (judged s) ≡ 9))
-    × ((r ≡ SecondBad) ↔ ((judgedNumber (judged s) ≡ 0) × (judgedNumber (judged t) ≡ 9)))
+    → (((comparedNumber r ≡ 9) × (comparedNumbers r ≡ 0 ∷ 0 ∷ 0 ∷ 0 ∷ 0 ∷ [])) ↔ (judgedNumber (judged s) ≡ 9))
+    × (((comparedNumber r ≡ 9) × (comparedNumbers r ≡ 1 ∷ 0 ∷ 0 ∷ 0 ∷ 0 ∷ []))
+    ↔ ((judgedNumber (judged s) ≡ 0) × (judgedNumber (judged t) ≡ 9)))
+
+-- of two patches: 0 exactly when the list has room, 8 exactly when it hasn't, and either way the number of entries
+abbrev pub CountsEntries : Type 0
+CountsEntries =
+    (s t l : List ℕ) (ds : List Difference) → Differing s t ds → (r : Compared) (l′ : List ℕ) → ComparedTo s t l r l′
+    → ((comparedNumber r ≡ 0) ↔ (3 * length ds ≤ length l))
+    × ((comparedNumber r ≡ 8) ↔ (length l < 3 * length ds))
+    × (comparedNumbers r ≡ 0 ∷ 0 ∷ length ds ∷ 0 ∷ 0 ∷ [])
+
+-- an entry's numbers: behind an address what the first writes there, then what the second does
+abbrev pub EntriesInNumbers : Type 0
+EntriesInNumbers =
+    (S T : List ByteWrite) (ds : List Difference) → Lists S T ds → (k : ℕ) → k < length ds
+    → (getD (numbersOf ds) (3 * k + 1) 0 ≡ sideNumber (lookup (getD (numbersOf ds) (3 * k) 0) S))
+    × (getD (numbersOf ds) (3 * k + 2) 0 ≡ sideNumber (lookup (getD (numbersOf ds) (3 * k) 0) T))

@@ -9,8 +9,8 @@ ghost use lib.Dec.{eqb};
 ghost use Rattle.patch.specs.Judging.{judged};
 ghost use Rattle.patch.specs.Answers.{judgedNumber};
 ghost use Rattle.patch.specs.Placing.{setOf};
-ghost use Rattle.comparing.specs.Comparing.{ComparedTo};
-ghost use Rattle.comparing.specs.Merging.{differences, put, Patches, Started};
+ghost use Rattle.comparing.specs.Comparing.{IsPatch, ComparedTo};
+ghost use Rattle.comparing.specs.Merging.{differences, put, lacking, Patches, Started};
 use fronts::Front;
 use fronts::front_at;
 use fronts::next_stretch;
@@ -29,6 +29,10 @@ pub enum Compared {
     SecondBad,
 }
 
+// Numbers of a list that has room for what differs between any two patches: three an entry, at most 1,024 bytes on each side. With fewer
+// the entries are counted before they are listed.
+const ALWAYS_ROOM: usize = 6144;
+
 fn is_patch(s: &[u8]) -> bool
     ensures { λ r. ⌜ r ≡ eqb (judgedNumber (judged (now (s .entry)))) 0 ⌝ }
 {
@@ -40,6 +44,7 @@ fn is_patch(s: &[u8]) -> bool
 }
 
 fn first_front(s: &[u8]) -> Front
+    requires { ⌜ IsPatch (now s) ⌝ }
     ensures { λ r. ⌜ Started (now (s .entry)) r ⌝ }
 {
     front_at(
@@ -75,10 +80,26 @@ fn count(first: &[u8], second: &[u8]) -> usize
     }
 }
 
-// All entries, put into the list from its front on.
-fn fill(list: &mut [u64], first: &[u8], second: &[u8])
+// How many entries there are where a list of so many numbers is too short for them, else 0.
+fn lacks(first: &[u8], second: &[u8], numbers: usize) -> usize
+    requires { ⌜ Patches (now first) (now second) ⌝ }
+    ensures { λ r. ⌜ r ≡ lacking numbers (length (differences (setOf (now (first .entry))) (setOf (now (second .entry))))) ⌝ }
+{
+    if ALWAYS_ROOM <= numbers {
+        return 0;
+    }
+    let n = count(first, second);
+    if numbers < 3 * n {
+        return n;
+    }
+    0
+}
+
+// All entries, put into the list from its front on. Answers the index behind them.
+fn fill(list: &mut [u64], first: &[u8], second: &[u8]) -> usize
     requires { ⌜ Patches (now first) (now second)
         × (3 * length (differences (setOf (now first)) (setOf (now second))) ≤ length (now list)) ⌝ }
+    ensures { λ r. ⌜ r ≡ 3 * length (differences (setOf (now (first .entry))) (setOf (now (second .entry)))) ⌝ }
     ensures { λ _.
         ⌜ now (list .exit) ≡ put 0 (now (list .entry)) (differences (setOf (now (first .entry))) (setOf (now (second .entry)))) ⌝ }
 {
@@ -88,7 +109,7 @@ fn fill(list: &mut [u64], first: &[u8], second: &[u8])
     loop {
         let k = next_stretch(f, g);
         if k.len == 0 {
-            return;
+            return at;
         }
         let p = reader::payload_of(first, f.at, k.one);
         let q = reader::payload_of(second, g.at, k.two);
@@ -108,10 +129,10 @@ pub fn compare(first: &[u8], second: &[u8], list: &mut [u64]) -> Compared
     if !is_patch(second) {
         return Compared::SecondBad;
     }
-    let n = count(first, second);
-    if list.len() < 3 * n {
-        return Compared::NoRoom { needed: n };
+    let needed = lacks(first, second, list.len());
+    if 0 < needed {
+        return Compared::NoRoom { needed };
     }
-    fill(list, first, second);
-    Compared::Done { entries: n }
+    let end = fill(list, first, second);
+    Compared::Done { entries: end / 3 }
 }

@@ -1,5 +1,6 @@
 pub mod Steps
 pub mod Heads
+pub mod Standing
 pub mod Scanning
 pub mod Stopping
 pub mod Loops

@@ -3,6 +3,7 @@
 use Prim.Native.Nat.{ℕ, zero, suc, _+_, _-_, _^_}
 use mathlib.Core.List.{List, [], _∷_}
 use mathlib.Core.Bool.{Bool, cond, _&&_}
+use mathlib.Core.Path.{_≡_}
 use lib.ListN.{length, take, drop, getD}
 use lib.Dec.{leb, ltb, eqb}
 use Rattle.endian.specs.LittleEndian.{leVal}
@@ -64,6 +65,10 @@ onHead c (Start start n) = cond (admits c start n) (Next start (c .at + 12) n (p
 unfoldable pub stepAt : List ℕ → Cursor → Step
 unfolding headAt onHead
 stepAt s c = onHead c (headAt s (c .at))
+
+-- a run that may come next stands at the cursor, or the trailer
+abbrev pub Stands : List ℕ → Cursor → Type 0
+Stands s c = stepAt s c ≡ Bad → ⊥
 
 -- what is read: the runs of a patch and where it ends; or the runs that were whole and acceptable, and where they end
 pub data Found : Type 0 where

@@ -1,6 +1,6 @@
 // Reading a patch that other bytes may follow: what stands at an index, one step, and all steps to the trailer.
 ghost use mathlib.Core.Path.{_≡_};
-ghost use Rattle.reading.specs.Reader.{headAt, admits, stepAt, readAt};
+ghost use Rattle.reading.specs.Reader.{headAt, admits, stepAt, Stands, readAt};
 ghost use Rattle.reading.specs.Stops.{stopOf, reading};
 
 pub const MAX_RUNS: usize = 512;
@@ -162,6 +162,33 @@ pub fn step_at(s: &[u8], c: Cursor) -> Step
                 Step::Bad
             }
         }
+    }
+}
+
+// The same step where it isn't bad, as of a string that was judged: the mark alone is looked at.
+pub fn step_on(s: &[u8], c: Cursor) -> Step
+    requires { ⌜ Stands (now s) c ⌝ }
+    ensures { λ r. ⌜ r ≡ stepAt (now (s .entry)) c ⌝ }
+{
+    let at = c.at;
+    let runs = c.runs;
+    let bytes = c.bytes;
+    let mark = s[at + 1];
+    if mark == 0x45 {
+        return Step::End { end: at + 4 };
+    }
+    let start = endian::le64(s, at + 2);
+    let len = endian::le16(s, at + 10) as usize;
+    Step::Next {
+        start,
+        from: at + 12,
+        len,
+        next: Cursor {
+            at: at + 12 + len,
+            runs: runs + 1,
+            bytes: bytes + len,
+            last: start + (len as u64 - 1),
+        },
     }
 }
 

@@ -11,10 +11,13 @@ ghost use Rattle.patch.specs.Answers.{appliedNumber, appliedNumbers, judgedNumb
 ghost use Rattle.patch.specs.Judging.{judged};
 ghost use Rattle.codec.specs.Codec.{encodeGiven, encodedAnswers};
 ghost use Rattle.patch.specs.Applying.{AppliedTo};
+ghost use Rattle.comparing.specs.Answers.{comparedNumber, comparedNumbers};
+ghost use Rattle.comparing.specs.Comparing.{ComparedTo};
 ghost use Rattle.verdicts.specs.Verdicts.{number};
 ghost use Rattle.outcomes.specs.Storing.{Stored, numbers};
 ghost use Rattle.numbers.specs.Flags.{flagsOf};
 ghost use Rattle.starshackle.specs.Interface.{Answers};
+use comparing::Compared;
 use encoding::Decoded;
 use encoding::Encoded;
 use numbers::answered;
@@ -152,6 +155,40 @@ pub extern "C" fn starshackle_judge(patch: &[u8], answer: &mut [u64; 5]) -> u64
         }
         Judged::NoPatch { runs, at } => {
             *answer = [runs as u64, at as u64, 0, 0, 0];
+            9
+        }
+    }
+}
+
+// Compares two patches: 0 with the number of entries in answer 2, each three numbers of the list, by ascending address: the address, the
+// first's byte and the second's, 256 for "not written"; 8 with the number of entries needed in answer 2 where the list is too short; 9
+// where one is no patch, with 0 for the first and 1 for the second in answer 0.
+#[no_mangle]
+pub extern "C" fn starshackle_compare(
+    first: &[u8],
+    second: &[u8],
+    list: &mut [u64],
+    answer: &mut [u64; 5],
+) -> u64
+    ensures { λ r.
+        ⌜ Answers (λ c. ComparedTo (now (first .entry)) (now (second .entry)) (now (list .entry)) c (now (list .exit)))
+        comparedNumber comparedNumbers r (now (answer .exit)) ⌝ }
+{
+    match comparing::compare(first, second, list) {
+        Compared::Done { entries } => {
+            *answer = [0, 0, entries as u64, 0, 0];
+            0
+        }
+        Compared::NoRoom { needed } => {
+            *answer = [0, 0, needed as u64, 0, 0];
+            8
+        }
+        Compared::FirstBad => {
+            *answer = [0; 5];
+            9
+        }
+        Compared::SecondBad => {
+            *answer = [1, 0, 0, 0, 0];
             9
         }
     }

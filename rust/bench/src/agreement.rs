@@ -4,6 +4,7 @@
 use crate::cases::{groups, Outcome};
 use crate::sides::{Side, SIDES};
 use crate::table::agree;
+use compare::comparing;
 use compare::patches::{kinds, windows};
 use compare::random::Random;
 use compare::report::Report;
@@ -15,6 +16,7 @@ use compare::GARBAGE;
 
 const STORES: u64 = 40_000;
 const STRINGS: u64 = 40_000;
+const PAIRS: u64 = 20_000;
 const WORDS: u64 = 2_000_000;
 
 /// Calls every side and compares the others with the model; tells what it answers.
@@ -73,6 +75,16 @@ fn applying_patches() {
         count(&mut verdicts, same(apply, text).0);
     }
     assert!([0, 3, 9, 10].iter().all(|&verdict| verdicts[verdict] > 100), "{verdicts:?}");
+}
+
+/// With the independent implementation, in lists too short, exact and longer.
+#[test]
+fn comparing_patches() {
+    for side in &SIDES {
+        let report = Report::default();
+        comparing::compare(&report, &side.compare, PAIRS, 1);
+        assert_eq!(report.differences(), 0, "{}", side.name);
+    }
 }
 
 #[test]

@@ -17,9 +17,9 @@ use std::process::ExitCode;
 
 const USAGE: &str = "\
 usage: bench [--case TEXT] [--runs N] [--write]
-  Measures store, apply and decode of the proved model, of Rust written plainly
-  (idiomatic) and of Rust written to be quick (hand), in one process and on the
-  same inputs. Buffers aren't cleared between calls. Prints tables of
+  Measures store, apply, compare and decode of the proved model, of Rust written
+  plainly (idiomatic) and of Rust written to be quick (hand), in one process and
+  on the same inputs. Buffers aren't cleared between calls. Prints tables of
   nanoseconds, of the ratios of the model's time to the others', and whether
   each aim is reached.
   --case TEXT  only the cases whose call and name have TEXT in them

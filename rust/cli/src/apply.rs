@@ -45,7 +45,7 @@ fn run(arguments: &Arguments) -> Result<Report, Failure> {
     let applied = apply(Window { base, memory: &mut memory }, &patch);
     let text = if arguments.json { json(&applied) } else { text(&applied) };
     let output = applied.is_ok().then(|| Output::prepare(out, &memory)).transpose()?;
-    Ok(Report { text, refused: applied.is_err(), output })
+    Ok(Report { output, ..Report::new(text, applied.is_err()) })
 }
 
 fn text(applied: &Result<Applied, Refusal>) -> String {

@@ -86,6 +86,18 @@ impl Arguments {
             }
         }
     }
+
+    /// The two operands that a subcommand takes.
+    pub fn two_operands(&self, expected: &str) -> Result<[&str; 2], Usage> {
+        match &self.operands[..] {
+            [first, second] => Ok([first, second]),
+            [] => Err(Usage(format!("no file; expected {expected}"))),
+            [_] => Err(Usage(format!("one file; expected {expected}"))),
+            [_, _, third, ..] => {
+                Err(Usage(format!("a third file, {}; expected two", shown(third))))
+            }
+        }
+    }
 }
 
 pub fn asks_for_help(word: &OsString) -> bool {
@@ -196,6 +208,14 @@ mod tests {
     fn one_operand() {
         assert!(read(&[]).unwrap().operand("a file").is_err());
         assert!(read(&["a", "b"]).unwrap().operand("a file").is_err());
+    }
+
+    #[test]
+    fn two_operands() {
+        assert_eq!(read(&["a", "b"]).unwrap().two_operands("two files"), Ok(["a", "b"]));
+        for words in [&[][..], &["a"], &["a", "b", "c"]] {
+            assert!(read(words).unwrap().two_operands("two files").is_err(), "{words:?}");
+        }
     }
 
     #[test]

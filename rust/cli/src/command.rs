@@ -22,17 +22,23 @@ impl Command {
     }
 }
 
-/// What goes to standard output, and whether the model refused something.
+/// The exit status when the model refuses, of most commands.
+const REFUSED: u8 = 1;
+/// The exit status of bad usage and of files that can't be read or written.
+pub const FAILED: u8 = 2;
+
+/// What goes to standard output, and the exit status.
 pub struct Report {
     pub text: String,
-    pub refused: bool,
+    pub status: u8,
     /// The file that gets its name once the text is out.
     pub output: Option<Output>,
 }
 
 impl Report {
+    /// The report of a call that the model has refused or not.
     pub fn new(text: String, refused: bool) -> Report {
-        Report { text, refused, output: None }
+        Report { text, status: if refused { REFUSED } else { 0 }, output: None }
     }
 }
 

@@ -11,6 +11,7 @@ mod apply;
 mod arguments;
 mod classes;
 mod command;
+mod compare;
 mod counter;
 mod decode;
 mod encode;
@@ -32,7 +33,7 @@ mod show;
 mod verdicts;
 
 use arguments::{Arguments, Usage};
-use command::{Command, Failure, Report};
+use command::{Command, Failure, Report, FAILED};
 use output::Output;
 use std::ffi::OsString;
 use std::io::{self, ErrorKind, Write};
@@ -44,16 +45,12 @@ const COMMANDS: &[Command] = &[
     patch::COMMAND,
     apply::COMMAND,
     show::COMMAND,
+    compare::COMMAND,
     decode::COMMAND,
     encode::COMMAND,
 ];
 
 const USAGE: &str = "usage: starshackle COMMAND [--json] [ARGUMENT...]";
-
-/// The exit status when the model refuses.
-const REFUSED: u8 = 1;
-/// The exit status of bad usage and of files that can't be read or written.
-const FAILED: u8 = 2;
 
 fn main() -> ExitCode {
     let mut words = std::env::args_os().skip(1);
@@ -84,11 +81,12 @@ fn help() -> String {
     let mut help =
         format!("{USAGE}\n\nAsks the proved model of Arm's predicated vector stores.\n\n");
     for command in COMMANDS {
-        help += &format!("  {:8}{}\n", command.name, command.summary);
+        help += &format!("  {:9}{}\n", command.name, command.summary);
     }
     help + "
 `starshackle COMMAND --help` describes a command. With --json the answer is JSON.
-Exit status: 0 done, 1 refused by the model, 2 bad usage or an unreadable file.
+Exit status: 0 done, 1 refused by the model, 2 bad usage or an unreadable file; of compare: 0
+nothing differs, 1 something does, 2 anything else.
 "
 }
 
@@ -111,8 +109,7 @@ fn answer(report: Report) -> ExitCode {
         Ok(()) => (),
     }
     match report.output.map_or(Ok(()), Output::put) {
-        Ok(()) if report.refused => ExitCode::from(REFUSED),
-        Ok(()) => ExitCode::SUCCESS,
+        Ok(()) => ExitCode::from(report.status),
         Err(message) => fail(&format!("starshackle: {message}")),
     }
 }

@@ -59,7 +59,7 @@ fn run(arguments: &Arguments) -> Result<Report, Failure> {
         text(&outcome) + &rule.map_or(String::new(), |rule| rule.text()) + &missing.text()
     };
     let output = patch.map(|patch| Output::prepare(out, patch)).transpose()?;
-    Ok(Report { text, refused: patch.is_none(), output })
+    Ok(Report { output, ..Report::new(text, patch.is_none()) })
 }
 
 /// Makes the patch. The store runs over a scratch window: what it holds plays no part.

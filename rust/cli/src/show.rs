@@ -86,7 +86,7 @@ fn text(patch: &[u8], judged: &Result<Judged, NoPatch>, runs: &[Run]) -> String 
 }
 
 /// What stands behind the acceptable runs, and what was expected there.
-fn wrong(patch: &[u8], runs: u64, offset: u64) -> String {
+pub fn wrong(patch: &[u8], runs: u64, offset: u64) -> String {
     const MOST: usize = 16;
     let rest = patch.get(offset as usize..).unwrap_or_default();
     let found = match rest.len() {

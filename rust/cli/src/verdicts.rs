@@ -85,7 +85,8 @@ mod tests {
         let shown = |refusal: Refusal| text(&Err(refusal), |()| String::new());
         let registers = "registers (verdict 2): the Z or P buffer has another size\n";
         assert_eq!(shown(Refusal::Registers), format!("{registers}  nothing was written\n"));
-        let no_room = "no room (verdict 8): the buffer is shorter than the patch\n";
+        let no_room =
+            "no room (verdict 8): the buffer is shorter than the patch, or the list too short\n";
         assert_eq!(shown(Refusal::NoRoom), format!("{no_room}  nothing was written\n"));
         let fault = shown(Refusal::Fault { element: 2, address: 0x1005 });
         let byte = "\n  element 2, first byte outside the window at 0x0000000000001005\n";

@@ -76,6 +76,7 @@ fn made_files() -> PathBuf {
         ("empty", &[]),
         ("memory-8", &[0xEE; 8]),
         ("memory-65537", &[0; 65_537]),
+        ("no-run.patch", b"PE\0\0"),
         ("cut-in-a-run.patch", &PATCH[..26]),
         ("cut-at-the-end.patch", &PATCH[..29]),
         ("one-byte-more.patch", &[&PATCH[..], &[0]].concat()),

@@ -3,6 +3,7 @@
 
 #![forbid(unsafe_code)]
 
+pub mod comparing;
 mod counts;
 pub mod decoding;
 pub mod encoding;

@@ -6,7 +6,7 @@ use compare::decoding::{self, Extent};
 use compare::reference::{self, Reference};
 use compare::report::{self, Report};
 use compare::storing::{self, counters};
-use compare::{encoding, patches};
+use compare::{comparing, encoding, patches};
 use std::io::{self, BufWriter, Write};
 use std::process::ExitCode;
 
@@ -17,6 +17,8 @@ usage: compare --texts BYTE
   print each word of a class with this top byte: the word, its class, its assembly text
 usage: compare --patches [STRINGS [SEED]] [--threads N]
   compare judging and applying patches on random strings
+usage: compare --pairs [PAIRS] [--threads N]
+  compare comparing two patches on random pairs of strings
 usage: compare --counters [--threads N]
   compare strided stores on every counter at every vector length
 usage: compare --stores [STORES] [--threads N]
@@ -32,6 +34,7 @@ enum Task {
     Compare { extent: Extent, threads: usize },
     Texts { top: u8 },
     Patches { strings: u64, seed: u64, threads: usize },
+    Pairs { pairs: u64, threads: usize },
     Counters { threads: usize },
     Stores { stores: u64, threads: usize },
     Store { number: u64 },
@@ -61,6 +64,8 @@ fn task(arguments: &[&str]) -> Option<Task> {
         ["--sample"] => Task::Compare { extent: Extent::Sample, threads },
         ["--texts", top] => Task::Texts { top: u8::from_str_radix(top, 16).ok()? },
         ["--patches", numbers @ ..] => patches_task(numbers, threads)?,
+        ["--pairs"] => Task::Pairs { pairs: comparing::PAIRS, threads },
+        ["--pairs", pairs] => Task::Pairs { pairs: pairs.parse().ok()?, threads },
         ["--counters"] => Task::Counters { threads },
         ["--stores"] => Task::Stores { stores: storing::STORES, threads },
         ["--stores", stores] => Task::Stores { stores: stores.parse().ok()?, threads },
@@ -86,6 +91,7 @@ fn perform(task: Task) -> ExitCode {
         Task::Compare { extent, threads } => compare(&report, extent, threads),
         Task::Texts { top } => return listed(texts(top)),
         Task::Patches { strings, seed, threads } => patches::run(&report, strings, seed, threads),
+        Task::Pairs { pairs, threads } => comparing::run(&report, pairs, threads),
         Task::Counters { threads } => counters::run(&report, threads),
         Task::Stores { stores, threads } => storing::run(&report, stores, threads),
         Task::Store { number } => storing::one(&report, number),
@@ -117,6 +123,9 @@ fn compare(report: &Report, extent: Extent, threads: usize) {
     }
     if !report.is_full() {
         patches::run(report, patches::STRINGS, patches::SEED, threads);
+    }
+    if !report.is_full() {
+        comparing::run(report, comparing::PAIRS, threads);
     }
     if !report.is_full() {
         counters::run(report, threads);

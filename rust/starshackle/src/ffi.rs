@@ -81,6 +81,39 @@ pub fn apply_numbers(base: u64, memory: &mut [u8], patch: &[u8], answer: &mut An
 }
 
 extern "C" {
+    fn starshackle_compare(
+        first: *const u8,
+        first_len: usize,
+        second: *const u8,
+        second_len: usize,
+        list: *mut u64,
+        list_len: usize,
+        answer: *mut Answer,
+    ) -> u64;
+}
+
+/// Compares two patches, writes all of `answer` and returns the verdict's number. The entries: of
+/// verdict 9, which string is no patch, 0 or 1; 0; the number of differences, of verdict 8 too; 0, 0.
+/// Where it is done, the differences stand at the front of `list`, each as three numbers: the
+/// address, the first's byte and the second's, 256 where it isn't written. The rest of the list, and
+/// all of it in a refusal, stays as it was.
+///
+/// ```
+/// let patch = b"PR\x05\x10\0\0\0\0\0\0\x01\0\xA4PE\x01\0"; // A4 at 1005h
+/// let (mut list, mut answer) = ([7; 4], [7; 5]);
+/// assert_eq!(starshackle::compare_numbers(patch, b"PE\0\0", &mut list, &mut answer), 0);
+/// assert_eq!((list, answer), ([0x1005, 0xA4, 256, 7], [0, 0, 1, 0, 0]));
+/// ```
+pub fn compare_numbers(first: &[u8], second: &[u8], list: &mut [u64], answer: &mut Answer) -> u64 {
+    let (first_len, second_len, list_len) = (first.len(), second.len(), list.len());
+    let (first, second, list) = (first.as_ptr(), second.as_ptr(), list.as_mut_ptr());
+    // SAFETY: each buffer comes with its length, and the library stays within it, so that the
+    // pointer of an empty one is never followed. It writes to the list and the five entries alone,
+    // which nothing else refers to, and keeps no pointer.
+    unsafe { starshackle_compare(first, first_len, second, second_len, list, list_len, answer) }
+}
+
+extern "C" {
     fn starshackle_store(
         vb: usize,
         flags: u64,

@@ -12,6 +12,7 @@
 //! | [`element`], [`elements`] | what one element of a store is, and how many there are |
 //! | [`judge`], [`Patch::read`] | whether bytes are a patch |
 //! | [`apply`], [`Patch::apply`] | what a patch does to a window of memory |
+//! | [`compare`], [`Patch::differences`] | where two patches differ |
 //!
 //! # Document 01's whole example
 //!
@@ -51,6 +52,7 @@
 #![warn(missing_docs)]
 
 pub mod assembly;
+mod comparing;
 mod edition;
 mod element;
 #[cfg(test)]
@@ -65,9 +67,11 @@ mod verdict;
 mod window;
 mod word;
 
+pub use comparing::{compare, compare_into, Difference, NotAPatch, NotCompared};
+pub use comparing::{ENTRY_NUMBERS, MOST_DIFFERENCES, NOT_WRITTEN};
 pub use edition::{Edition, LengthRule};
 pub use element::{element, elements, Element};
-pub use ffi::{apply_numbers, decode_fields, element_numbers, encode_fields};
+pub use ffi::{apply_numbers, compare_numbers, decode_fields, element_numbers, encode_fields};
 pub use ffi::{judge_numbers, store_numbers};
 pub use flags::Flags;
 pub use machine::Machine;

@@ -5,6 +5,7 @@ use std::fmt::{self, Display, Formatter};
 
 /// A verdict by its number in the papers. They are checked in the order in which they stand here, in
 /// which [`Verdict::Overlap`] comes before [`Verdict::NoRoom`]: a call answers the first that is due.
+/// Comparing looks at [`Verdict::BadPatch`] first.
 ///
 /// ```
 /// use starshackle::Verdict;
@@ -34,9 +35,9 @@ pub enum Verdict {
     Fault = 7,
     /// Two active elements share a byte, and the flag [`STRICT`](crate::Flags::STRICT) is on.
     Overlap = 12,
-    /// The buffer is shorter than the patch.
+    /// The buffer is shorter than the patch, or the list too short for the differences.
     NoRoom = 8,
-    /// The bytes are not a patch.
+    /// The bytes are not a patch; of two strings one isn't.
     BadPatch = 9,
     /// A run isn't wholly in the window.
     Outside = 10,
@@ -69,7 +70,7 @@ const VERDICTS: [(Verdict, &str, &str); 13] = [
     (Verdict::Stack, "stack", "SP is the base, it is checked, and it isn't a multiple of 16"),
     (Verdict::Fault, "fault", "an active element has a byte outside the window"),
     (Verdict::Overlap, "overlap", OVERLAP),
-    (Verdict::NoRoom, "no room", "the buffer is shorter than the patch"),
+    (Verdict::NoRoom, "no room", "the buffer is shorter than the patch, or the list too short"),
     (Verdict::BadPatch, "bad patch", "the bytes are not a patch"),
     (Verdict::Outside, "outside", "a run isn't wholly in the window"),
     (Verdict::Fields, "fields", "no word has these fields"),

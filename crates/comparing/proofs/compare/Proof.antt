@@ -1,13 +1,15 @@
--- `compare`: both strings judged, the entries counted, then listed. Assumes nothing.
+-- `compare`: both strings judged, the list's room, then the entries. Assumes nothing.
 use mathlib.Core.Path.{sym, _∙_}
+use Prim.Native.Nat.{_*_, _≤_}
 use native.Mathlib.Omega.{arith}
+use lib.ListN.{length}
 use borrow.Author.Tests.{not-true, not-false}
 use Rattle.endian.specs.LittleEndian.{Bytes}
 use Rattle.endian.proofs.LittleEndian.{bytes-at}
-use Rattle.writes.proofs.Sizes.{bytes-fit}
-use Rattle.comparing.specs.Merging.{Patches}
-use Rattle.comparing.proofs.Turning.{small-of}
+use Rattle.patch.specs.Placing.{setOf}
+use Rattle.comparing.specs.Merging.{differences, Patches}
 use Rattle.comparing.proofs.Outcomes.{is-patch, no-patch, patches, compare-first, compare-second, compare-short, compare-done}
+use Rattle.comparing.proofs.Outcomes.{lacks-some, lacks-none, thirds}
 use borrow.Author.Needs.{needs}
 use Rattle.comparing.proofs.compare.Statement.{statement}
 use Rattle.comparing.proofs.compare.Tie as tie
@@ -52,28 +54,34 @@ returns-2 c =
     (not-false _ (k .if1 .left)))
     (no-patch _ _ (c .before .is-patch2 .ensures) (not-true _ (c .if2 .taken)))
 
-count-requires : tie.Need-count-requires
-count-requires c κs = both c
-
-mul-if3 : tie.Need-mul-if3
-mul-if3 c = omega (arith, small-of _ _ (both (c .before)), c .count .ensures, bytes-fit)
+lacks-requires : tie.Need-lacks-requires
+lacks-requires c κs = both c
 
 returns-3 : tie.Need-returns-3
-returns-3 c = compare-short _ _ _ _ (both (c .before .before)) (c .before .count .ensures) (c .if3 .taken)
+returns-3 c =
+    let k = c .before in
+    let w = lacks-some _ _ _ (k .lacks .ensures) (c .if3 .taken) in
+    compare-short _ _ _ _ (both (k .before)) (w .0) (omega (arith, w))
+
+-- the list has room
+room : (c : tie.Else3) → let k = st (c .before .before) .args in 3 * length (differences (setOf (k .first .now)) (setOf (k .second .now)))
+    ≤ length (k .list .now)
+room c = lacks-none _ _ _ (c .before .lacks .ensures) (c .if3 .left)
 
 fill-requires : tie.Need-fill-requires
 fill-requires c κs =
-    let k = c .before .before in
-    (both (k .before), omega (arith, k .count .ensures, c .before .if3 .left))
+    let k = c .before in
+    (both (k .before .before), room k)
 
 same-length : tie.Need-same-length
 same-length c = search needs
 
 returns-4 : tie.Need-returns-4
 returns-4 c =
-    let k = c .before .before .before .before .before in
-    compare-done _ _ _ _ _ (both (k .before)) (k .count .ensures) (c .before .before .before .before .if3 .left)
-    (c .before .before .fill .ensures)
+    let f = c .before .before in
+    let k = f .before .before in
+    compare-done _ _ _ _ _ (both (k .before .before)) (thirds _ _ (f .fill .ensures .0))
+    (omega (arith, room k, thirds _ _ (f .fill .ensures .0))) (f .fill .ensures .1)
 
 pub compare-spec : {M : Type 1} → statement M
 compare-spec =
@@ -83,8 +91,7 @@ compare-spec =
     returns
     is-patch-requires-2
     returns-2
-    count-requires
-    mul-if3
+    lacks-requires
     returns-3
     fill-requires
     same-length

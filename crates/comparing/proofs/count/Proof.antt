@@ -56,10 +56,10 @@ next c =
 -- ---- the needs
 
 first-front-requires : tie.Need-first-front-requires Inv-loop μ-loop
-first-front-requires c κs = search needs
+first-front-requires c κs = let p = c .before .before .pre in (p .one, p .first)
 
 first-front-requires-2 : tie.Need-first-front-requires-2 Inv-loop μ-loop
-first-front-requires-2 c κs = search needs
+first-front-requires-2 c κs = let p = c .before .before .before .pre in (p .two, p .second)
 
 loop-holds : tie.Need-loop-holds Inv-loop μ-loop
 loop-holds c = counted-first _ _ _ _ (c .before .before .before .before .pre) (c .before .first-front .ensures) (c .first-front2 .ensures)

@@ -43,10 +43,10 @@ turn c =
 -- ---- the needs
 
 first-front-requires : tie.Need-first-front-requires Inv-loop μ-loop
-first-front-requires c κs = search needs
+first-front-requires c κs = let p = c .before .before .before .pre .0 in (p .one, p .first)
 
 first-front-requires-2 : tie.Need-first-front-requires-2 Inv-loop μ-loop
-first-front-requires-2 c κs = search needs
+first-front-requires-2 c κs = let p = c .before .before .before .before .pre .0 in (p .two, p .second)
 
 loop-holds : tie.Need-loop-holds Inv-loop μ-loop
 loop-holds c =

@@ -1,11 +1,11 @@
 -- `first_front`: the first run. Assumes nothing.
-use Rattle.comparing.proofs.Standing.{started}
-use borrow.Author.Needs.{needs}
+use Rattle.comparing.proofs.Standing.{patch-ends, started}
+use native.Mathlib.Omega.{arith}
 use Rattle.comparing.proofs.first_front.Statement.{statement}
 use Rattle.comparing.proofs.first_front.Tie as tie
 
 front-at-requires : tie.Need-front-at-requires
-front-at-requires c κs = search needs
+front-at-requires c κs = (omega arith, patch-ends _ (c .before .pre))
 
 returns : tie.Need-returns
 returns c = started _ _ (c .front-at .ensures)

@@ -6,8 +6,6 @@ use lib.ListN.{take, drop}
 use borrow.Author.Needs.{needs}
 use Rattle.reader.proofs.part.Statement.{statement}
 use Rattle.reader.proofs.part.Tie as tie
-use Rattle.reader.proofs.part.Reads as reads
-use Rattle.reader.proofs.part.Lts as lts
 
 add-result : tie.Need-add-result
 add-result c = search needs

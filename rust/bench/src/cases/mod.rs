@@ -2,6 +2,7 @@
 
 mod aligned;
 mod apply;
+mod compare;
 mod decode;
 mod shapes;
 mod store;
@@ -59,6 +60,7 @@ pub fn groups() -> Vec<Group> {
     vec![
         group("store", "call", store::cases()),
         group("apply", "call", apply::cases()),
+        group("compare", "call", compare::cases()),
         group("decode", "word", decode::cases()),
     ]
 }
@@ -77,6 +79,6 @@ pub fn chosen(text: &str) -> Vec<Group> {
 const NO_SLOWER: Aim = Aim { idiomatic: 1.0, hand: None };
 
 /// No slower than idiomatic Rust, and at most so many times the time of Rust written to be quick.
-fn times_hand(hand: f64) -> Aim {
+const fn times_hand(hand: f64) -> Aim {
     Aim { hand: Some(hand), ..NO_SLOWER }
 }

@@ -27,9 +27,9 @@ pub fn apply(base: u64, memory: &mut [u8], patch: &[u8], answer: &mut Answer) ->
 }
 
 /// What is known of a patch.
-struct Judged {
-    runs: usize,
-    bytes: usize,
+pub struct Judged {
+    pub runs: usize,
+    pub bytes: usize,
     /// The lowest and the highest address, where there is a run.
     first: u64,
     last: u64,
@@ -37,14 +37,14 @@ struct Judged {
 
 /// A run's start and length.
 #[inline(always)]
-fn numbers(head: &[u8]) -> (u64, usize) {
+pub fn numbers(head: &[u8]) -> (u64, usize) {
     let start = u64::from_le_bytes(head[2..10].try_into().expect("there are eight bytes"));
     (start, usize::from(u16::from_le_bytes([head[10], head[11]])))
 }
 
 /// Reads the string to its end; nothing where it is no patch.
 #[inline(always)]
-fn judged(patch: &[u8]) -> Option<Judged> {
+pub fn judged(patch: &[u8]) -> Option<Judged> {
     let (mut runs, mut bytes, mut first, mut last) = (0, 0, 0, 0);
     let mut rest = patch;
     while rest.len() >= HEAD && rest[..2] == RUN_MARK {

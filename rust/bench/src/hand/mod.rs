@@ -3,6 +3,7 @@
 
 mod apply;
 mod checks;
+mod compare;
 mod compose;
 mod decode;
 mod lanes;
@@ -11,5 +12,6 @@ mod store;
 mod strided;
 
 pub use apply::apply;
+pub use compare::compare;
 pub use decode::decode;
 pub use store::store;

@@ -1,8 +1,9 @@
 //! Rust written plainly, as one would write it without a thought of speed or of slowness: every
-//! class and every verdict. Only a patch that is made allocates.
+//! class and every verdict. Only a patch that is made, and comparing, allocate.
 
 mod access;
 mod active;
+mod compare;
 mod encoding;
 mod machine;
 mod patch;
@@ -14,6 +15,7 @@ mod word;
 use crate::verdicts::{DONE, UNDEFINED};
 use starshackle::Fields;
 
+pub use compare::compare;
 pub use patch::apply;
 pub use store::store;
 

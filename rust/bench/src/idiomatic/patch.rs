@@ -6,15 +6,15 @@ use crate::verdicts::{HEAD, MOST_BYTES, MOST_RUNS, RUN_MARK, TRAILER_MARK};
 use starshackle::Answer;
 
 /// Bytes from an address on.
-struct Run<'a> {
-    start: u64,
-    bytes: &'a [u8],
+pub struct Run<'a> {
+    pub start: u64,
+    pub bytes: &'a [u8],
 }
 
 /// The runs at the front of a string, whatever their numbers say; then what is left.
 #[derive(Clone, Copy)]
-struct Runs<'a> {
-    rest: &'a [u8],
+pub struct Runs<'a> {
+    pub rest: &'a [u8],
 }
 
 impl<'a> Iterator for Runs<'a> {
@@ -51,7 +51,7 @@ fn try_apply(base: u64, memory: &mut [u8], patch: &[u8]) -> Result<Done, Refusal
 }
 
 /// The runs and bytes of a patch; nothing where the string is none.
-fn read(patch: &[u8]) -> Option<Done> {
+pub fn read(patch: &[u8]) -> Option<Done> {
     let mut runs = Runs { rest: patch };
     let mut done = Done::default();
     let mut last: Option<u64> = None;

@@ -1,12 +1,12 @@
--- `front_at`: by what the step finds. Assumes nothing.
+-- `front_at`: by what the step finds, which isn't bad. Assumes nothing.
 use mathlib.Core.Path.{sym, _∙_}
-use Rattle.comparing.proofs.Standing.{front-next, front-end, front-bad}
+use Rattle.comparing.proofs.Standing.{stands, front-next, front-end}
 use borrow.Author.Needs.{needs}
 use Rattle.comparing.proofs.fronts.front_at.Statement.{statement}
 use Rattle.comparing.proofs.fronts.front_at.Tie as tie
 
 next-run-requires : tie.Need-next-run-requires
-next-run-requires c κs = search needs
+next-run-requires c κs = stands _ _ (c .before .pre .0) (c .before .pre .1)
 
 enum-known-w : tie.Need-enum-known-w
 enum-known-w c = search needs
@@ -20,17 +20,20 @@ enum-told-2 c = search needs
 returns : tie.Need-returns
 returns c =
     let told = c .before .before in
-    front-next _ _ _ _ _ _ (told .before .before .before .pre) (sym (told .before .next-run .ensures) ∙ c .before .w .given .1)
+    let p = told .before .before .before .pre in
+    front-next _ _ _ _ _ _ (p .0) (p .1) (sym (told .before .next-run .ensures) ∙ c .before .w .given .1)
 
 returns-2 : tie.Need-returns-2
 returns-2 c =
     let told = c .before in
-    front-end _ _ _ (told .before .before .before .pre) (sym (told .before .next-run .ensures) ∙ c .enum-told .given .1)
+    let p = told .before .before .before .pre in
+    front-end _ _ _ (p .0) (p .1) (sym (told .before .next-run .ensures) ∙ c .enum-told .given .1)
 
 returns-3 : tie.Need-returns-3
 returns-3 c =
     let told = c .before in
-    front-bad _ _ (told .before .before .before .pre) (sym (told .before .next-run .ensures) ∙ c .enum-told2 .given .1)
+    let p = told .before .before .before .pre in
+    absurd (stands _ _ (p .0) (p .1) (sym (told .before .next-run .ensures) ∙ c .enum-told2 .given .1))
 
 pub front-at-spec : {M : Type 1} → statement M
 front-at-spec =
