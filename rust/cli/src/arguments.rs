@@ -1,7 +1,9 @@
 //! Reading a subcommand's arguments.
 
-use crate::quote::shown;
+use crate::quote::{self, shown};
 use std::ffi::{OsStr, OsString};
+use std::os::unix::ffi::OsStrExt;
+use std::str;
 
 /// The options that each subcommand takes.
 const COMMON: [&str; 2] = ["--json", "--help"];
@@ -15,9 +17,9 @@ pub struct Usage(pub String);
 pub struct Arguments {
     pub help: bool,
     pub json: bool,
-    pub operands: Vec<String>,
+    pub operands: Vec<OsString>,
     /// The options with a value.
-    values: Vec<(&'static str, String)>,
+    values: Vec<(&'static str, OsString)>,
     /// The options with none.
     switches: Vec<&'static str>,
 }
@@ -59,7 +61,7 @@ impl Arguments {
         if self.values.iter().any(|(other, _)| *other == option) {
             return Err(Usage(format!("{option} given twice; expected one")));
         }
-        self.values.push((option, utf_8(value)?));
+        self.values.push((option, value));
         Ok(())
     }
 
@@ -69,32 +71,37 @@ impl Arguments {
     }
 
     /// The value of an option that has to be given.
-    pub fn value(&self, option: &str, expected: &str) -> Result<&str, Usage> {
+    pub fn value(&self, option: &str, expected: &str) -> Result<&OsStr, Usage> {
         match self.values.iter().find(|(other, _)| *other == option) {
             Some((_, value)) => Ok(value),
             None => Err(Usage(format!("no {option}; expected {option} and {expected}"))),
         }
     }
 
+    /// The operands as texts.
+    pub fn texts(&self) -> Result<Vec<&str>, Usage> {
+        self.operands.iter().map(|operand| utf_8(operand)).collect()
+    }
+
     /// The one operand that a subcommand takes.
-    pub fn operand(&self, expected: &str) -> Result<&str, Usage> {
+    pub fn operand(&self, expected: &str) -> Result<&OsStr, Usage> {
         match &self.operands[..] {
             [operand] => Ok(operand),
             [] => Err(Usage(format!("no file; expected {expected}"))),
             [_, second, ..] => {
-                Err(Usage(format!("a second file, {}; expected one", shown(second))))
+                Err(Usage(format!("a second file, '{}'; expected one", quote::file(second))))
             }
         }
     }
 
     /// The two operands that a subcommand takes.
-    pub fn two_operands(&self, expected: &str) -> Result<[&str; 2], Usage> {
+    pub fn two_operands(&self, expected: &str) -> Result<[&OsStr; 2], Usage> {
         match &self.operands[..] {
             [first, second] => Ok([first, second]),
             [] => Err(Usage(format!("no file; expected {expected}"))),
             [_] => Err(Usage(format!("one file; expected {expected}"))),
             [_, _, third, ..] => {
-                Err(Usage(format!("a third file, {}; expected two", shown(third))))
+                Err(Usage(format!("a third file, '{}'; expected two", quote::file(third))))
             }
         }
     }
@@ -105,22 +112,31 @@ pub fn asks_for_help(word: &OsString) -> bool {
 }
 
 /// A long option and its value in one word.
-fn joined<'a>(word: &'a OsStr, valued: &[&'static str]) -> Option<(&'static str, &'a str)> {
-    let (name, value) = word.to_str()?.split_once('=')?;
+fn joined<'a>(word: &'a OsStr, valued: &[&'static str]) -> Option<(&'static str, &'a OsStr)> {
+    let bytes = word.as_bytes();
+    let equals = bytes.iter().position(|byte| *byte == b'=')?;
+    let name = str::from_utf8(&bytes[..equals]).ok()?;
     let option = valued.iter().find(|option| **option == name && name.starts_with("--"))?;
-    Some((option, value))
+    Some((option, OsStr::from_bytes(&bytes[equals + 1..])))
 }
 
-fn operand(word: OsString, options: bool, expected: impl Fn() -> String) -> Result<String, Usage> {
-    let word = utf_8(word)?;
-    if options && word.starts_with('-') {
-        return Err(Usage(format!("unknown option {}; expected {}", shown(&word), expected())));
+/// An operand. A minus alone is one: standard input or output.
+fn operand(
+    word: OsString,
+    options: bool,
+    expected: impl Fn() -> String,
+) -> Result<OsString, Usage> {
+    if options && word != "-" && word.as_bytes().starts_with(b"-") {
+        let option = quote::file(word);
+        return Err(Usage(format!("unknown option '{option}'; expected {}", expected())));
     }
     Ok(word)
 }
 
-fn utf_8(word: OsString) -> Result<String, Usage> {
-    word.into_string().map_err(|word| unexpected(&word.to_string_lossy(), "UTF-8"))
+/// A word that isn't the name of a file.
+pub fn utf_8(word: &OsStr) -> Result<&str, Usage> {
+    let problem = || Usage(format!("'{}'; expected UTF-8", quote::file(word)));
+    word.to_str().ok_or_else(problem)
 }
 
 /// The two sides of an operand NAME=VALUE.
@@ -158,7 +174,7 @@ mod tests {
     }
 
     fn arguments(help: bool, json: bool, operands: &[&str]) -> Arguments {
-        let operands = operands.iter().map(|word| word.to_string()).collect();
+        let operands = operands.iter().map(OsString::from).collect();
         Arguments { help, json, operands, ..Arguments::default() }
     }
 
@@ -172,22 +188,23 @@ mod tests {
 
     #[test]
     fn unknown_options() {
-        for word in ["-", "-x", "--jsonx", "-2"] {
+        for word in ["-x", "--jsonx", "-2", "--=", "-="] {
             assert!(read(&["a", word]).is_err(), "{word}");
         }
+        assert_eq!(read(&["-", "--", "-"]), Ok(arguments(false, false, &["-", "-"])));
     }
 
     #[test]
     fn options_with_a_value() {
         let arguments = read(&["-o", "--json", "a", "--base", "-o"]).unwrap();
-        assert_eq!(arguments.operand("a file"), Ok("a"));
-        assert_eq!(arguments.value("-o", "a file"), Ok("--json"));
-        assert_eq!(arguments.value("--base", "an address"), Ok("-o"));
+        assert_eq!(arguments.operand("a file"), Ok("a".as_ref()));
+        assert_eq!(arguments.value("-o", "a file"), Ok("--json".as_ref()));
+        assert_eq!(arguments.value("--base", "an address"), Ok("-o".as_ref()));
         assert!(arguments.value("--memory", "a file").is_err());
         assert!(!arguments.json);
         let joined = read(&["--base=1=2", "--", "--base=3"]).unwrap();
-        assert_eq!(joined.value("--base", "an address"), Ok("1=2"));
-        assert_eq!(joined.operand("a file"), Ok("--base=3"));
+        assert_eq!(joined.value("--base", "an address"), Ok("1=2".as_ref()));
+        assert_eq!(joined.operand("a file"), Ok("--base=3".as_ref()));
         for words in [&["-o"][..], &["-o", "a", "-o", "b"], &["-oa"], &["-o=a"], &["--json=a"]] {
             assert!(read(words).is_err(), "{words:?}");
         }
@@ -198,7 +215,7 @@ mod tests {
         assert!(!read(&["a"]).unwrap().has("--all"));
         let arguments = read(&["a", "--all", "--all"]).unwrap();
         assert!(arguments.has("--all"));
-        assert_eq!(arguments.operand("a file"), Ok("a"));
+        assert_eq!(arguments.operand("a file"), Ok("a".as_ref()));
         assert!(!read(&["--", "--all"]).unwrap().has("--all"));
         assert!(!read(&["-o", "--all"]).unwrap().has("--all"));
         assert!(read(&["--all=a"]).is_err());
@@ -211,8 +228,21 @@ mod tests {
     }
 
     #[test]
+    fn words_that_are_no_text() {
+        let word = OsStr::from_bytes(b"\xFF");
+        let words = [word, OsStr::from_bytes(b"--base=\xFF")].map(OsString::from);
+        let arguments = Arguments::read(words, &["--base"], &[]).unwrap();
+        assert_eq!(arguments.operand("a file"), Ok(word));
+        assert_eq!(arguments.value("--base", "an address"), Ok(word));
+        assert_eq!(arguments.texts(), Err(Usage(r"'\xFF'; expected UTF-8".to_string())));
+    }
+
+    #[test]
     fn two_operands() {
-        assert_eq!(read(&["a", "b"]).unwrap().two_operands("two files"), Ok(["a", "b"]));
+        assert_eq!(
+            read(&["a", "b"]).unwrap().two_operands("two files"),
+            Ok(["a", "b"].map(OsStr::new))
+        );
         for words in [&[][..], &["a"], &["a", "b", "c"]] {
             assert!(read(words).unwrap().two_operands("two files").is_err(), "{words:?}");
         }

@@ -35,6 +35,7 @@ pub enum Entry {
 }
 
 /// What an entry holds.
+#[derive(PartialEq, Eq)]
 pub enum Value {
     Number(i128),
     Extension(Option<Extension>),
@@ -114,6 +115,11 @@ const fn class(name: &'static str, fields: &'static [Field]) -> Class {
 
 const fn strided(name: &'static str, fields: &'static [Field], registers: usize) -> Class {
     Class { name, fields, registers }
+}
+
+/// How many classes there are.
+pub fn count() -> u64 {
+    CLASSES.len() as u64
 }
 
 /// The class of a number, if it has a name.

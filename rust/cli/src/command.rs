@@ -31,14 +31,17 @@ pub const FAILED: u8 = 2;
 pub struct Report {
     pub text: String,
     pub status: u8,
-    /// The file that gets its name once the text is out.
+    /// Whether the text goes to standard error, since standard output is for the bytes.
+    pub aside: bool,
+    /// The bytes that go to their place once the text is out.
     pub output: Option<Output>,
 }
 
 impl Report {
     /// The report of a call that the model has refused or not.
     pub fn new(text: String, refused: bool) -> Report {
-        Report { text, status: if refused { REFUSED } else { 0 }, output: None }
+        let status = if refused { REFUSED } else { 0 };
+        Report { text, status, aside: false, output: None }
     }
 }
 
@@ -51,10 +54,9 @@ pub enum Failure {
 }
 
 impl Failure {
-    /// What is wrong with a file.
-    pub fn of_file(path: &str, message: &str) -> Failure {
-        let path = if path.is_empty() { "''" } else { path };
-        Failure::File(format!("{path}: {message}"))
+    /// What is wrong with a file, whose name is as messages show it.
+    pub fn of_file(name: &str, message: &str) -> Failure {
+        Failure::File(format!("{name}: {message}"))
     }
 }
 

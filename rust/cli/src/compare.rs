@@ -1,7 +1,8 @@
 //! `starshackle compare`: where two patches differ.
 
-use crate::arguments::Arguments;
+use crate::arguments::{Arguments, Usage};
 use crate::command::{Command, Failure, Report, FAILED};
+use crate::input::STANDARD;
 use crate::json::Json;
 use crate::{input, numbers, show, verdicts};
 use starshackle::{compare, judge, Difference, NoPatch, NotAPatch, Verdict};
@@ -19,9 +20,10 @@ Of a file that is no patch it shows which of the two it is, the first when neith
 it stops being one, as `show` does.
 Addresses, bytes and the file that is no patch are the proved model's answer, and so is where that
 file stops being one. Stretches are only how the answer is shown.
+A - for FIRST or for SECOND is standard input.
 
-With --json the answer is an object. Its keys: verdict, verdict_name, no_patch (first or second: the
-file that is none), offset (where that file stops being one), differences (each with address, first
+With --json the answer is an object. Its keys: version, verdict, verdict_name, no_patch (first or
+second: the file that is none), offset (where that file stops being one), differences (each with address, first
 and second, which are null where no byte is written). They are null where there is nothing to say.
 
 Exit status: 0 nothing differs, 1 something differs, 2 a file that is no patch, bad usage or an
@@ -49,6 +51,9 @@ struct Refused {
 
 fn run(arguments: &Arguments) -> Result<Report, Failure> {
     let [first, second] = arguments.two_operands("two files with patches")?;
+    if first == STANDARD && second == STANDARD {
+        return Err(Usage("both FIRST and SECOND are -; expected a file".to_string()).into());
+    }
     let patches = [input::bytes(first, show::EXPECTED)?, input::bytes(second, show::EXPECTED)?];
     let compared = compare(&patches[0], &patches[1]).map_err(|which| {
         let which = usize::from(which == NotAPatch::Second);
@@ -61,7 +66,11 @@ fn run(arguments: &Arguments) -> Result<Report, Failure> {
         Err(Refused { which, problem }) => {
             let (verdict, name, file) = (Verdict::BadPatch, NAMES[*which], [first, second][*which]);
             let wrong = show::wrong(&patches[*which], problem.runs, problem.offset);
-            format!("{verdict}: {}: the {name} file, {file}\n{wrong}", verdict.cause())
+            format!(
+                "{verdict}: {}: the {name} file, {}\n{wrong}",
+                verdict.cause(),
+                input::name(file)
+            )
         }
     };
     let status = compared.map_or(FAILED, |found| if found.is_empty() { 0 } else { DIFFERS });

@@ -1,12 +1,13 @@
 //! `starshackle encode`: the word of a store.
 
 use crate::arguments::{one_of, pair, unexpected, Arguments, Usage};
-use crate::classes::FIELDS;
+use crate::classes::{Field, FIELDS};
 use crate::command::{Command, Failure, Report};
 use crate::json::Json;
+use crate::notes::Notes;
 use crate::numbers::hexadecimal;
 use crate::quote::shown;
-use crate::{fields, verdicts};
+use crate::{fields, verdicts, wrong_fields};
 use starshackle::{Refusal, Store, Verdict};
 
 pub const COMMAND: Command = Command {
@@ -15,7 +16,8 @@ pub const COMMAND: Command = Command {
     help: "\
 usage: starshackle encode [--json] NAME=VALUE...
 
-Shows the word of the store with these fields, or that there is none: fields (verdict 11).
+Shows the word of the store with these fields, or that there is none: fields (verdict 11). The notes
+that name each field which is wrong are not proved.
 
   class=N              the class by its number, 1 to 36
   zm=N or rm=N         the vector or the general register of the offset, 0 to 31
@@ -32,8 +34,8 @@ Numbers are decimal or 0x and hexadecimal. A field that isn't given is 0, and ex
 Of two names in a line, only the one that the class has may be given.
 `starshackle decode` shows which fields a class has.
 
-With --json the answer is an object with the keys word, verdict and verdict_name. The word is
-null where there is none.
+With --json the answer is an object. Its keys: version, verdict, verdict_name, word, cause (the
+notes). They are null where there is nothing to say.
 
 Exit status: 0 there is a word, 1 there is none, 2 bad usage.
 ",
@@ -43,25 +45,29 @@ Exit status: 0 there is a word, 1 there is none, 2 bad usage.
 };
 
 fn run(arguments: &Arguments) -> Result<Report, Failure> {
-    let outcome = starshackle::encode(store(&arguments.operands)?);
-    let answer = if arguments.json { json(&outcome).to_string() } else { text(&outcome) };
-    Ok(Report::new(answer + "\n", outcome.is_err()))
+    let (store, given) = store(&arguments.texts()?)?;
+    let outcome = starshackle::encode(store);
+    let cause = if outcome.is_ok() { vec![] } else { wrong_fields::notes(&store, &given) };
+    let answer = if arguments.json { json } else { text }(&outcome, &Notes(cause));
+    Ok(Report::new(answer, outcome.is_err()))
 }
 
-fn text(outcome: &Result<u32, Refusal>) -> String {
+fn text(outcome: &Result<u32, Refusal>, cause: &Notes) -> String {
     match outcome {
-        Ok(word) => hexadecimal(*word),
-        Err(refusal) => refusal.to_string(),
+        Ok(word) => hexadecimal(*word) + "\n",
+        Err(refusal) => verdicts::first_line(refusal, cause) + &cause.text(),
     }
 }
 
-fn json(outcome: &Result<u32, Refusal>) -> Json {
-    let mut members = vec![("word", outcome.ok().map(hexadecimal).into())];
-    members.extend(verdicts::members(Verdict::of(outcome)));
-    Json::Object(members)
+fn json(outcome: &Result<u32, Refusal>, cause: &Notes) -> String {
+    let mut members = Vec::from(verdicts::members(Verdict::of(outcome)));
+    members.push(("word", outcome.ok().map(hexadecimal).into()));
+    members.push(("cause", cause.json()));
+    format!("{}\n", Json::Object(members))
 }
 
-fn store(operands: &[String]) -> Result<Store, Usage> {
+/// The store, and the fields that are given.
+fn store(operands: &[&str]) -> Result<(Store, Vec<Field>), Usage> {
     if operands.is_empty() {
         return Err(Usage("no field; expected NAME=VALUE".to_string()));
     }
@@ -76,7 +82,7 @@ fn store(operands: &[String]) -> Result<Store, Usage> {
         given.push(*field);
     }
     given.iter().try_for_each(|field| fields::of_class(store.class, field))?;
-    Ok(store)
+    Ok((store, given))
 }
 
 fn unknown(name: &str) -> Usage {

@@ -1,10 +1,10 @@
 //! A decoded store as answers show it.
 
-use crate::classes::{self, Class, Field, PC};
+use crate::classes::{self, Class, Field, PC, ZN};
 use crate::json::Json;
 use crate::reads;
 use crate::register::Register;
-use starshackle::{assembly, Refusal, Store};
+use starshackle::{assembly, Flags, Refusal, Store};
 use std::collections::BTreeSet;
 
 /// A store with its class.
@@ -15,12 +15,20 @@ pub struct Known {
 
 /// The members that a word's store has in JSON.
 pub fn members(known: Option<&Known>) -> [(&'static str, Json); 5] {
+    let [class, class_name] = class_members(known);
     [
-        ("class", known.map(|known| known.store.class).into()),
-        ("class_name", known.map(|known| known.class.name).into()),
+        class,
+        class_name,
         ("fields", known.map(Known::fields).into()),
         ("counter", known.and_then(Known::counter_name).into()),
         ("assembly", known.and_then(Known::assembly).into()),
+    ]
+}
+
+fn class_members(known: Option<&Known>) -> [(&'static str, Json); 2] {
+    [
+        ("class", known.map(|known| known.store.class).into()),
+        ("class_name", known.map(|known| known.class.name).into()),
     ]
 }
 
@@ -41,11 +49,34 @@ impl Known {
         let fields: Vec<String> = class.fields.iter().map(|field| self.field(field)).collect();
         let assembly = assembly::text(store).unwrap_or_default();
         format!(
-            "class {}, {}\n  {}\n  assembly (not proved): {assembly}\n",
-            store.class,
-            class.name,
+            "{}\n  {}\n  assembly (not proved): {assembly}\n",
+            self.class_text(),
             fields.join(", "),
         )
+    }
+
+    /// The number of the class.
+    pub fn class(&self) -> u64 {
+        self.store.class
+    }
+
+    /// The flag without which the class is undefined.
+    pub fn needs(&self) -> Flags {
+        match self.class.fields {
+            fields if fields.contains(&PC) => Flags::SME2,
+            fields if fields.contains(&ZN) => Flags::SVE2P1,
+            _ => Flags::SVE,
+        }
+    }
+
+    /// The class by number and name.
+    pub fn class_text(&self) -> String {
+        format!("class {}, {}", self.store.class, self.class.name)
+    }
+
+    /// The same in JSON.
+    pub fn class_members(&self) -> [(&'static str, Json); 2] {
+        class_members(Some(self))
     }
 
     fn field(&self, field: &Field) -> String {

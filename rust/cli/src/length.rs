@@ -10,6 +10,8 @@ use starshackle::{Edition, Flags, LengthRule, Machine, Refusal};
 /// A rule and what it was applied to.
 pub struct Length {
     vb: u64,
+    /// Whether the file gives VB.
+    given: bool,
     edition: Edition,
     streaming: bool,
     rule: LengthRule,
@@ -17,28 +19,31 @@ pub struct Length {
 
 impl Length {
     /// The rule that refused a store, if one did.
-    pub fn of<T>(machine: &Machine, outcome: &Result<T, Refusal>) -> Option<Length> {
+    pub fn of<T>(machine: &Machine, given: bool, outcome: &Result<T, Refusal>) -> Option<Length> {
         let Machine { vb, flags, edition, .. } = *machine;
         let (streaming, rule) = (flags.contains(Flags::STREAMING), edition.rule(flags));
         let refused = matches!(outcome, Err(Refusal::Length));
-        refused.then_some(Length { vb: vb as u64, edition, streaming, rule })
+        refused.then_some(Length { vb: vb as u64, given, edition, streaming, rule })
     }
 
-    /// The line about it.
+    /// The note about it.
     pub fn text(&self) -> String {
         let Length { vb, edition, rule, .. } = self;
+        let length =
+            if self.given { format!("VB is {vb}") } else { "VB was not given".to_string() };
         let cause = match (edition, rule) {
             (Edition::Early, LengthRule::OneOfFive) => {
                 "with streaming on, under both editions,".to_string()
             }
             _ => format!("under the {} edition", edition_name(*edition)),
         };
-        format!("  note (not proved): VB is {vb}; {cause} it may be {rule}\n")
+        format!("{length}; {cause} it may be {rule}")
     }
 
     pub fn json(&self) -> Json {
         Json::Object(vec![
             ("vb", self.vb.into()),
+            ("given", self.given.into()),
             ("edition", edition_name(self.edition).into()),
             ("streaming", self.streaming.into()),
             ("allowed", self.rule.to_string().into()),
@@ -54,7 +59,7 @@ mod tests {
 
     /// A word that is no store: only its length is judged.
     fn refused(machine: &Machine) -> Option<Length> {
-        Length::of(machine, &elements(machine, 0))
+        Length::of(machine, true, &elements(machine, 0))
     }
 
     /// The rule that is named is the one by which the model refuses, at every length.
@@ -80,21 +85,21 @@ mod tests {
         let text = |vb, flags, edition| {
             refused(&Machine { vb, flags, edition, ..Machine::default() }).unwrap().text()
         };
-        let five = "it may be 16, 32, 64, 128 or 256\n";
-        let note = "  note (not proved): VB is";
+        let five = "it may be 16, 32, 64, 128 or 256";
         assert_eq!(
             text(48, Flags::SVE, Edition::Late),
-            format!("{note} 48; under the late edition {five}")
+            format!("VB is 48; under the late edition {five}")
         );
         assert_eq!(
             text(48, Flags::STREAMING, Edition::Early),
-            format!("{note} 48; with streaming on, under both editions, {five}")
+            format!("VB is 48; with streaming on, under both editions, {five}")
         );
         assert_eq!(
             text(40, Flags::SVE, Edition::Early),
-            format!(
-                "{note} 40; under the early edition it may be any multiple of 16 from 16 to 256\n"
-            )
+            "VB is 40; under the early edition it may be any multiple of 16 from 16 to 256"
         );
+        let machine = Machine::default();
+        let none = Length::of(&machine, false, &elements(&machine, 0)).unwrap();
+        assert_eq!(none.text(), format!("VB was not given; under the late edition {five}"));
     }
 }

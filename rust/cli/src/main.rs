@@ -6,36 +6,45 @@
 #![forbid(unsafe_code)]
 
 #[macro_use]
+mod output;
+#[macro_use]
 mod store;
 mod apply;
 mod arguments;
+mod cause;
 mod classes;
 mod command;
 mod compare;
 mod counter;
 mod decode;
 mod encode;
+mod faults;
 mod fields;
 mod input;
 mod json;
 mod known;
 mod length;
 mod missing;
+mod notes;
 mod numbers;
-mod output;
+mod overlap;
 mod patch;
 mod picture;
 mod quote;
 mod reads;
 mod register;
+mod rows;
 mod run;
 mod show;
+mod swapped;
 mod verdicts;
+mod wrong_fields;
 
 use arguments::{Arguments, Usage};
 use command::{Command, Failure, Report, FAILED};
 use output::Output;
-use std::ffi::OsString;
+use starshackle_streams::{was_open, Stream};
+use std::ffi::{OsStr, OsString};
 use std::io::{self, ErrorKind, Write};
 use std::process::ExitCode;
 
@@ -50,23 +59,39 @@ const COMMANDS: &[Command] = &[
     encode::COMMAND,
 ];
 
-const USAGE: &str = "usage: starshackle COMMAND [--json] [ARGUMENT...]";
+const USAGE: &str = "usage: starshackle [--json] COMMAND [ARGUMENT...]";
 
 fn main() -> ExitCode {
-    let mut words = std::env::args_os().skip(1);
+    let mut words = std::env::args_os().skip(1).peekable();
+    let json = words.next_if(|word| word == "--json");
     let first = words.next();
-    match COMMANDS.iter().find(|command| first.as_deref() == Some(command.name.as_ref())) {
-        Some(command) => match call(command, words) {
+    match named(first.as_deref()) {
+        Some(command) => match call(command, json.into_iter().chain(words)) {
             Ok(report) => answer(report),
             Err(failure) => complain(command, &failure),
         },
-        None if first.as_ref().map_or(false, asks_for_help) => answer(Report::new(help(), false)),
+        None if first.as_ref().map_or(false, asks_for_help) => help_on(words),
         None => fail(&format!("starshackle: {}\n{USAGE}", no_command(first).0)),
     }
 }
 
+fn named(name: Option<&OsStr>) -> Option<&'static Command> {
+    COMMANDS.iter().find(|command| name == Some(command.name.as_ref()))
+}
+
 fn asks_for_help(first: &OsString) -> bool {
     first == "help" || arguments::asks_for_help(first)
+}
+
+/// The help on the command whose name follows, or on all.
+fn help_on(mut words: impl Iterator<Item = OsString>) -> ExitCode {
+    let name = words.find(|word| word != "--json");
+    let text = match named(name.as_deref()) {
+        Some(command) => command.help.to_string(),
+        None if name.is_none() => help(),
+        None => return fail(&format!("starshackle: {}\n{USAGE}", no_command(name).0)),
+    };
+    answer(Report::new(text, false))
 }
 
 fn call(command: &Command, words: impl Iterator<Item = OsString>) -> Result<Report, Failure> {
@@ -84,7 +109,8 @@ fn help() -> String {
         help += &format!("  {:9}{}\n", command.name, command.summary);
     }
     help + "
-`starshackle COMMAND --help` describes a command. With --json the answer is JSON.
+`starshackle help COMMAND` describes a command. With --json the answer is JSON; docs/JSON.md has
+its keys.
 Exit status: 0 done, 1 refused by the model, 2 bad usage or an unreadable file; of compare: 0
 nothing differs, 1 something does, 2 anything else.
 "
@@ -93,24 +119,35 @@ nothing differs, 1 something does, 2 anything else.
 fn no_command(first: Option<OsString>) -> Usage {
     let expected = arguments::one_of(COMMANDS.iter().map(|command| command.name));
     let found = match first {
-        Some(word) => format!("unknown command {}", quote::shown(&word.to_string_lossy())),
+        Some(word) => format!("unknown command '{}'", quote::file(word)),
         None => "no command".to_string(),
     };
     Usage(format!("{found}; expected {expected}"))
 }
 
-/// Writes the report to standard output, then its file. The exit status is the model's answer.
+/// Writes the report, then its output. The exit status is the model's answer.
 fn answer(report: Report) -> ExitCode {
-    let mut out = io::stdout().lock();
-    match out.write_all(report.text.as_bytes()).and_then(|()| out.flush()) {
+    let (told, name) = match report.aside {
+        true => (aside(&report.text), "error"),
+        false => (output::to_standard(report.text.as_bytes()), "output"),
+    };
+    match told {
         // The reader, such as `head`, has seen enough.
         Err(error) if error.kind() == ErrorKind::BrokenPipe && report.output.is_none() => (),
-        Err(error) => return fail(&format!("starshackle: standard output: {error}")),
+        Err(error) => return fail(&format!("starshackle: standard {name}: {error}")),
         Ok(()) => (),
     }
     match report.output.map_or(Ok(()), Output::put) {
         Ok(()) => ExitCode::from(report.status),
         Err(message) => fail(&format!("starshackle: {message}")),
+    }
+}
+
+/// Writes a report to standard error. One that is closed takes nothing.
+fn aside(text: &str) -> io::Result<()> {
+    match was_open(Stream::Error) {
+        true => io::stderr().write_all(text.as_bytes()),
+        false => Err(input::closed()),
     }
 }
 

@@ -4,11 +4,14 @@
 
 use crate::arguments::{all_of, one_of, Arguments};
 use crate::command::Failure;
+use crate::input;
 use crate::json::Json;
 use crate::known::Known;
+use crate::notes;
 use crate::register::Register;
 use crate::store::Registers;
 use starshackle::Refusal;
+use std::ffi::OsStr;
 
 /// The option that makes them an error.
 pub const REQUIRE: &str = "--require-registers";
@@ -33,13 +36,13 @@ impl Missing {
     }
 
     /// An error where there are some and the arguments want none.
-    pub fn check(&self, arguments: &Arguments, path: &str) -> Result<(), Failure> {
+    pub fn check(&self, arguments: &Arguments, path: &OsStr) -> Result<(), Failure> {
         if self.names().is_empty() || !arguments.has(REQUIRE) {
             return Ok(());
         }
         let problem = format!("no line for {}", one_of(self.names()));
         let expected = format!("{REQUIRE} wants one for each register that the store reads");
-        Err(Failure::of_file(path, &format!("{problem}; {expected}")))
+        Err(Failure::of_file(&input::name(path), &format!("{problem}; {expected}")))
     }
 
     /// The line about them, if there are any.
@@ -49,7 +52,7 @@ impl Missing {
             1 => "which isn't given and so is 0",
             _ => "which aren't given and so are 0",
         };
-        format!("  note (not proved): the store reads {}, {zero}\n", all_of(self.names()))
+        notes::line(&format!("the store reads {}, {zero}", all_of(self.names())))
     }
 
     fn names(&self) -> Vec<&str> {

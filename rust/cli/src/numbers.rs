@@ -1,9 +1,9 @@
 //! Numbers as users write them. No sign, space or separator is taken except where said.
 
-/// An instruction word: hexadecimal, with or without `0x` before it or `h` behind it.
+/// An instruction word: eight hexadecimal digits, with or without `0x` before them or `h` behind.
 pub fn word(text: &str) -> Option<u32> {
     let digits = behind_0x(text).or_else(|| text.strip_suffix(&['h', 'H'][..])).unwrap_or(text);
-    u32::try_from(digits_of(digits, 16)?).ok()
+    u32::try_from(digits_of(digits, 16).filter(|_| digits.len() == 8)?).ok()
 }
 
 /// An instruction word as answers show it.
@@ -20,6 +20,16 @@ pub fn address(address: u64) -> String {
 pub fn bytes(bytes: &[u8], separator: &str) -> String {
     let digits: Vec<String> = bytes.iter().map(|byte| format!("{byte:02X}")).collect();
     digits.join(separator)
+}
+
+/// Bytes in hexadecimal, two digits each, with nothing between them.
+pub fn pairs(text: &str) -> Option<Vec<u8>> {
+    let digit = |letter: &u8| char::from(*letter).to_digit(16);
+    let byte = |pair: &[u8]| match pair {
+        [high, low] => u8::try_from(16 * digit(high)? + digit(low)?).ok(),
+        _ => None,
+    };
+    text.as_bytes().chunks(2).map(byte).collect()
 }
 
 /// What [`number`] takes, for messages.
@@ -79,10 +89,12 @@ mod tests {
         for text in ["A16F6000", "a16f6000", "0xA16F6000", "0Xa16f6000", "A16F6000h", "A16F6000H"] {
             assert_eq!(word(text), Some(0xA16F_6000), "{text}");
         }
-        assert_eq!(word("0"), Some(0));
-        assert_eq!(word("0h"), Some(0));
-        assert_eq!(word("00000000FFFFFFFF"), Some(u32::MAX));
+        assert_eq!(word("00000000"), Some(0));
+        assert_eq!(word("0x00000001"), Some(1));
         for text in ["", "0x", "h", "0x0h", "+1", "-1", "1 ", "A16F_6000", "G", "100000000", "é"] {
+            assert_eq!(word(text), None, "{text}");
+        }
+        for text in ["0", "0h", "A16F600", "0xA16F600", "0A16F6000", "+A16F600", "0xA16F600h"] {
             assert_eq!(word(text), None, "{text}");
         }
         assert_eq!(word(&"F".repeat(100)), None);

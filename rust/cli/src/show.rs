@@ -16,15 +16,15 @@ usage: starshackle show [--json] PATCH
 Shows the runs of a patch: where each stands in the file, its address, length and bytes. Of a file
 that is no patch it shows how many runs from the front are whole and acceptable, these runs, and
 what stands behind them. Whether it is a patch, and where it stops being one, is the proved
-model's answer.
+model's answer. A - for PATCH is standard input.
 
 A patch is a row of runs, then 50 45 and the number of runs in two bytes, and nothing behind it. A
 run is 50 52, its address in eight bytes, its length in two, and its bytes. There are at most 512
 runs and 1,024 bytes in them; a run has at least one; addresses ascend, with at least one unwritten
 address between runs; no run passes the top of the address space. Numbers are little-endian.
 
-With --json the answer is an object. Its keys: verdict, verdict_name, runs (each with run, offset,
-address, length, bytes), payload_bytes (in all of them), offset (where what follows can't be
+With --json the answer is an object. Its keys: version, verdict, verdict_name, runs (each with run,
+offset, address, length, bytes), payload_bytes (in all of them), offset (where what follows can't be
 accepted, null for a patch).
 
 Exit status: 0 a patch, 1 none, 2 bad usage or an unreadable file.

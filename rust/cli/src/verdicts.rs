@@ -1,18 +1,41 @@
 //! Verdicts as answers show them.
 
 use crate::json::Json;
+use crate::notes::Notes;
 use crate::numbers;
 use starshackle::{Refusal, Stored, Verdict};
 
-/// What text shows of a call: its counts where it is done, or the refusal with cause and detail.
-pub fn text<T>(outcome: &Result<T, Refusal>, counts: impl Fn(&T) -> String) -> String {
-    let verdict = Verdict::of(outcome);
+/// What text shows of a call: its counts where it is done, or the refusal with rule and detail, and
+/// notes about its case.
+pub fn explained<T>(
+    outcome: &Result<T, Refusal>,
+    counts: impl Fn(&T) -> String,
+    notes: &Notes,
+) -> String {
     match outcome {
-        Ok(done) => format!("{verdict}\n{}", counts(done)),
+        Ok(done) => format!("{}\n{}", Verdict::Done, counts(done)),
         Err(refusal) => {
             let detail = detail_text(refusal).unwrap_or_default();
-            format!("{verdict}: {}\n{detail}  nothing was written\n", verdict.cause())
+            let (first, notes) = (first_line(refusal, notes), notes.text());
+            format!("{first}{detail}  nothing was written\n{notes}")
         }
+    }
+}
+
+/// The verdict with its rule, unless that has several cases and notes say which it is.
+pub fn first_line(refusal: &Refusal, notes: &Notes) -> String {
+    let verdict = refusal.verdict();
+    match refusal {
+        Refusal::Length
+        | Refusal::Window
+        | Refusal::Undefined
+        | Refusal::Illegal
+        | Refusal::Stack
+            if !notes.is_empty() =>
+        {
+            format!("{verdict}\n")
+        }
+        _ => format!("{verdict}: {}\n", verdict.cause()),
     }
 }
 
@@ -59,19 +82,26 @@ pub fn detail_json<T>(outcome: &Result<T, Refusal>) -> Json {
 
 /// The detail and the counts of a store in JSON.
 pub fn store_members(outcome: &Result<Stored, Refusal>) -> [(&'static str, Json); 4] {
-    let none = Stored { elements: 0, bytes: 0, length: 0, steps: 0 };
-    let Stored { elements, bytes, steps, .. } = outcome.unwrap_or(none);
+    let count = |count: fn(&Stored) -> u64| outcome.as_ref().ok().map(count).into();
     [
         ("detail", detail_json(outcome)),
-        ("active_elements", elements.into()),
-        ("bytes_moved", bytes.into()),
-        ("steps", steps.into()),
+        ("active_elements", count(|stored| stored.elements)),
+        ("bytes_moved", count(|stored| stored.bytes)),
+        ("steps", count(|stored| stored.steps)),
     ]
 }
 
-/// The members that a verdict has in JSON.
-pub fn members(verdict: Verdict) -> [(&'static str, Json); 2] {
-    [("verdict", verdict.number().into()), ("verdict_name", verdict.name().into())]
+/// The version of the answers in JSON, which `docs/JSON.md` describes. It changes where a key goes or
+/// changes its meaning.
+const VERSION: u64 = 1;
+
+/// The members with which each answer in JSON starts.
+pub fn members(verdict: Verdict) -> [(&'static str, Json); 3] {
+    [
+        ("version", VERSION.into()),
+        ("verdict", verdict.number().into()),
+        ("verdict_name", verdict.name().into()),
+    ]
 }
 
 #[cfg(test)]
@@ -82,7 +112,8 @@ mod tests {
     /// the buffer has room for every patch.
     #[test]
     fn refusals() {
-        let shown = |refusal: Refusal| text(&Err(refusal), |()| String::new());
+        let shown =
+            |refusal: Refusal| explained(&Err(refusal), |()| String::new(), &Notes::default());
         let registers = "registers (verdict 2): the Z or P buffer has another size\n";
         assert_eq!(shown(Refusal::Registers), format!("{registers}  nothing was written\n"));
         let no_room =

@@ -39,6 +39,24 @@ fn encode_takes_what_decode_gives() {
     }
 }
 
+/// Bytes in the order of memory are the word, and a word in their order is told to be swapped.
+#[test]
+fn decode_takes_bytes() {
+    for word in WORDS {
+        let bytes: Vec<&str> = (0..4).rev().map(|byte| &word[2 * byte..][..2]).collect();
+        let answer = text_of(command(&["decode", word]).output().unwrap());
+        let by_bytes = command(&["decode", "--bytes"]).args(&bytes).output().unwrap();
+        assert_eq!(text_of(by_bytes), answer);
+        let joined = command(&["decode", "--bytes", &bytes.join(" ")]).output().unwrap();
+        assert_eq!(text_of(joined), answer);
+        let swapped = command(&["decode", &bytes.concat()]).output().unwrap();
+        assert_eq!(swapped.status.code(), Some(1));
+        let (class, _) = answer.split_once('\n').unwrap();
+        let note = format!("in the other order it is {}; --bytes", class.replacen(':', ",", 1));
+        assert!(String::from_utf8(swapped.stdout).unwrap().contains(&note), "{note}");
+    }
+}
+
 /// The README's copy is true, but for the line of assembly, which it leaves out.
 #[test]
 fn the_readme_shows_the_first_answer() {

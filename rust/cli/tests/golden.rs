@@ -1,9 +1,9 @@
 //! Runs the command lines in `tests/golden/` and compares their answers with those stored there.
 //!
-//! A file is a row of blocks: a line `$ starshackle ARGUMENTS` (parted by spaces, no quotes),
-//! then standard output; standard error, if any, behind a line `[standard error]`; and a line
-//! `[status N]`. Files are named from the repository's root; TMP is a folder with the files that
-//! [`made_files`] makes. To store the answers of today, run
+//! A file is a row of blocks: a line `$ starshackle ARGUMENTS` (parted by spaces, no quotes), with
+//! `< FILE` behind them if standard input isn't empty, then standard output; standard error, if any,
+//! behind a line `[standard error]`; and a line `[status N]`. Files are named from the repository's
+//! root; TMP is a folder with the files that [`made_files`] makes. To store the answers of today, run
 //!
 //!     STARSHACKLE_GOLDEN=rewrite cargo test --release --locked
 //!
@@ -75,6 +75,7 @@ fn made_files() -> PathBuf {
     let files: &[(&str, &[u8])] = &[
         ("empty", &[]),
         ("memory-8", &[0xEE; 8]),
+        ("bytes", b"00 60 6f a1\n01 a0 a2 e5\n"),
         ("memory-65537", &[0; 65_537]),
         ("no-run.patch", b"PE\0\0"),
         ("cut-in-a-run.patch", &PATCH[..26]),
@@ -121,8 +122,11 @@ fn command(line: &str) -> Option<&str> {
 
 fn block(arguments: &str, folder: &Path) -> String {
     let folder = folder.to_str().unwrap();
+    let (words, input) = arguments.split_once(" < ").unwrap_or((arguments, "/dev/null"));
+    let input = Path::new(ROOT).join(input.replace("TMP", folder));
     let output = Command::new(env!("CARGO_BIN_EXE_starshackle"))
-        .args(arguments.split_whitespace().map(|word| word.replace("TMP", folder)))
+        .args(words.split_whitespace().map(|word| word.replace("TMP", folder)))
+        .stdin(fs::File::open(input).unwrap())
         .current_dir(ROOT)
         .output()
         .unwrap();

@@ -4,7 +4,8 @@
 macro_rules! store_help {
     () => {
         "\
-FILE is a text with lines NAME = VALUE. What isn't given is 0; # starts a comment.
+FILE is a text with lines NAME = VALUE. What isn't given is 0; # starts a comment. A - for FILE is
+standard input.
 
   word = 0xE4428001            the instruction word; E4428001, as `decode` shows it, will do
   class = 6                    or in its place the fields, by the names that `encode` takes

@@ -11,16 +11,16 @@ pub struct Line<'a> {
     pub value: &'a str,
 }
 
-/// A line's number, from 1, and its file.
+/// A line's number, from 1, and its file's name as messages show it.
 #[derive(Clone, Copy)]
 struct Place<'a> {
-    path: &'a str,
+    file: &'a str,
     number: usize,
 }
 
 impl Place<'_> {
     fn problem(&self, message: &str) -> Failure {
-        Failure::File(format!("{}:{}: {message}", self.path, self.number))
+        Failure::File(format!("{}:{}: {message}", self.file, self.number))
     }
 }
 
@@ -46,14 +46,14 @@ impl Line<'_> {
 }
 
 /// The lines of a text. A name stands for one line only.
-pub fn lines<'a>(path: &'a str, text: &'a str) -> Result<Vec<Line<'a>>, Failure> {
+pub fn lines<'a>(file: &'a str, text: &'a str) -> Result<Vec<Line<'a>>, Failure> {
     let mut lines: Vec<Line> = Vec::new();
     for (number, text) in text.trim_start_matches('\u{FEFF}').lines().enumerate() {
         let text = text.split_once('#').map_or(text, |(before, _)| before).trim();
         if text.is_empty() {
             continue;
         }
-        let line = line(Place { path, number: number + 1 }, text)?;
+        let line = line(Place { file, number: number + 1 }, text)?;
         if let Some(other) = lines.iter().find(|other| other.name.repeats(&line.name)) {
             return Err(line.problem(&repetition(other, &line.name)));
         }

@@ -6,13 +6,16 @@ mod lines;
 mod names;
 mod values;
 
+use crate::classes::Field;
 use crate::command::Failure;
 use crate::register::Register;
+use crate::wrong_fields::notes;
 use crate::{fields, input, numbers};
 use lines::{is, lines, Line};
 use names::Subject;
 use starshackle::{elements, Edition, Flags, Machine, Refusal, Store, LARGEST_WINDOW};
 use std::collections::BTreeSet;
+use std::ffi::OsStr;
 
 /// What such a file is, for messages.
 pub const EXPECTED: &str = "a text that describes a store";
@@ -21,6 +24,8 @@ pub const EXPECTED: &str = "a text that describes a store";
 pub struct Described {
     /// The word, or why the fields have none.
     pub word: Result<u32, Refusal>,
+    /// Notes about the fields that have no word.
+    pub wrong_fields: Vec<String>,
     pub registers: Registers,
     /// The window's address and length.
     pub base: u64,
@@ -38,6 +43,7 @@ pub struct Registers {
     sp: u64,
     z: Vec<u8>,
     p: Vec<u8>,
+    gives_vb: bool,
     /// Those that a line is about, be it 0 or not. A line gives all of its register.
     given: BTreeSet<Register>,
 }
@@ -53,13 +59,18 @@ impl Registers {
         self.given.contains(register)
     }
 
+    /// Whether the file has a line about VB.
+    pub fn gives_vb(&self) -> bool {
+        self.gives_vb
+    }
+
     /// Registers of 0. For a length that the model refuses there are none.
     fn zero(vb: usize, flags: Flags, edition: Edition) -> Registers {
         let empty = Machine { vb, flags, edition, ..Machine::default() };
         let length = if elements(&empty, 0) == Err(Refusal::Length) { 0 } else { vb };
         let (z, p) = (vec![0; 32 * length], vec![0; 2 * length]);
-        let given = BTreeSet::new();
-        Registers { vb, flags, edition, x: [0; 31], sp: 0, z, p, given }
+        let (gives_vb, given) = (false, BTreeSet::new());
+        Registers { vb, flags, edition, x: [0; 31], sp: 0, z, p, gives_vb, given }
     }
 
     /// Puts a line's value into a register.
@@ -90,14 +101,19 @@ const FLAGS: &[(&str, Flags)] = &[
     ("strict", Flags::STRICT),
 ];
 
-pub fn read(path: &str) -> Result<Described, Failure> {
-    let text = input::text(path, EXPECTED)?;
-    let lines = lines(path, &text)?;
-    let word = word(&lines)?.ok_or_else(|| no_word(path, &text))?;
+/// The name of one flag.
+pub fn flag_name(flag: Flags) -> &'static str {
+    FLAGS.iter().find(|(_, other)| *other == flag).map_or("", |(name, _)| name)
+}
+
+pub fn read(path: &OsStr) -> Result<Described, Failure> {
+    let (text, name) = (input::text(path, EXPECTED)?, input::name(path));
+    let lines = lines(&name, &text)?;
+    let (word, wrong_fields) = word(&lines)?.ok_or_else(|| no_word(&name, &text))?;
     let registers = registers(&lines)?;
     let base = number(&lines, Subject::Window)?.unwrap_or(0);
     let (length, memory) = window(&lines)?;
-    Ok(Described { word, registers, base, length, memory })
+    Ok(Described { word, wrong_fields, registers, base, length, memory })
 }
 
 fn find<'a, 'b>(lines: &'a [Line<'b>], subject: Subject) -> Option<&'a Line<'b>> {
@@ -110,17 +126,20 @@ fn number(lines: &[Line], subject: Subject) -> Result<Option<u64>, Failure> {
 }
 
 /// What is wrong with a file that has come to its end.
-fn no_word(path: &str, text: &str) -> Failure {
+fn no_word(name: &str, text: &str) -> Failure {
     let last = text.lines().count().max(1);
     let expected = "a line word = WORD, or class = N and other fields";
-    Failure::File(format!("{path}:{last}: the end, and no word; expected {expected}"))
+    Failure::File(format!("{name}:{last}: the end, and no word; expected {expected}"))
 }
 
+/// A word, or why there is none, with notes about the fields that are wrong.
+type Word = (Result<u32, Refusal>, Vec<String>);
+
 /// The given word, or that of the given fields, if any are given.
-fn word(lines: &[Line]) -> Result<Option<Result<u32, Refusal>>, Failure> {
+fn word(lines: &[Line]) -> Result<Option<Word>, Failure> {
     if let Some(line) = find(lines, Subject::Word) {
         let expected = "a word of 32 bits, such as 0xA16F6000";
-        return Ok(Some(Ok(line.read(word_number, expected)?)));
+        return Ok(Some((Ok(line.read(word_number, expected)?), vec![])));
     }
     let (mut store, mut given) = (Store::default(), Vec::new());
     for line in lines {
@@ -133,7 +152,8 @@ fn word(lines: &[Line]) -> Result<Option<Result<u32, Refusal>>, Failure> {
     for (line, field) in &given {
         fields::of_class(store.class, field).map_err(|usage| line.problem(&usage.0))?;
     }
-    Ok((!given.is_empty()).then(|| starshackle::encode(store)))
+    let fields: Vec<Field> = given.iter().map(|(_, field)| **field).collect();
+    Ok((!given.is_empty()).then(|| (starshackle::encode(store), notes(&store, &fields))))
 }
 
 /// A number, or a word with a letter in it, as `starshackle decode` shows it.
@@ -146,12 +166,13 @@ fn word_number(text: &str) -> Option<u32> {
 }
 
 fn registers(lines: &[Line]) -> Result<Registers, Failure> {
-    let vb = number(lines, Subject::Vb)?.unwrap_or(0);
+    let given = number(lines, Subject::Vb)?;
     // A length that has no room here is none of the model's either.
-    let vb = usize::try_from(vb).unwrap_or(usize::MAX);
+    let vb = usize::try_from(given.unwrap_or(0)).unwrap_or(usize::MAX);
     let flags = find(lines, Subject::Flags).map_or(Ok(Flags::default()), flags)?;
     let edition = find(lines, Subject::Edition).map_or(Ok(Edition::default()), edition)?;
     let mut registers = Registers::zero(vb, flags, edition);
+    registers.gives_vb = given.is_some();
     for line in lines {
         if let Subject::Register(register) = line.name.subject {
             registers.put(register, line)?;

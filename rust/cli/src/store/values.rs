@@ -3,7 +3,7 @@
 use super::lines::{count, is, Line};
 use super::names::Width;
 use crate::command::Failure;
-use crate::numbers;
+use crate::numbers::{self, pairs};
 
 /// Stands behind a last value that is repeated to the end.
 const REPEAT: &str = "...";
@@ -127,15 +127,6 @@ fn bytes(text: &str) -> Option<Row<u8>> {
         values.extend(pairs(text)?);
     }
     Some(Row { values, goes_on })
-}
-
-fn pairs(text: &str) -> Option<Vec<u8>> {
-    let digit = |letter: &u8| char::from(*letter).to_digit(16);
-    let byte = |pair: &[u8]| match pair {
-        [high, low] => u8::try_from(16 * digit(high)? + digit(low)?).ok(),
-        _ => None,
-    };
-    text.as_bytes().chunks(2).map(byte).collect()
 }
 
 /// The bytes of a window, whose length may be given in another line. Of those that repeat the last
