@@ -25,9 +25,23 @@
 #include <stddef.h>
 #include <stdint.h>
 
+#define STARSHACKLE_VERSION_MAJOR 0
+#define STARSHACKLE_VERSION_MINOR 1
+#define STARSHACKLE_VERSION_PATCH 0
+#define STARSHACKLE_VERSION "0.1.0"
+
 #ifdef __cplusplus
 extern "C" {
 #endif
+
+/*
+ * The version as a text, that of the header with which the caller was compiled: the function is here and not in the library, which has
+ * only what is proved.
+ */
+static inline const char *starshackle_version(void)
+{
+    return STARSHACKLE_VERSION;
+}
 
 /* Verdicts, in the order in which they are checked, in which 12 stands before 8: the first that is due is answered. In
    starshackle_compare 9 stands before 8. */

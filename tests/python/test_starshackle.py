@@ -2,6 +2,7 @@
 
 import ctypes
 import doctest
+import importlib
 import pathlib
 import random
 import re
@@ -9,6 +10,7 @@ import struct
 import unittest
 
 import starshackle
+from starshackle import _library
 from starshackle import (EARLY_LENGTHS, LARGEST_PATCH, LARGEST_STORE_PATCH, LARGEST_WINDOW, LENGTHS, MOST_DIFFERENCES, Applied, Compared,
                          Decoded, Difference, Edition, Element, Encoded, Extension, Flags, Judged, Machine, Store, Stored, Verdict, apply,
                          compare, decode, element, encode, judge, store)
@@ -565,20 +567,20 @@ class Differences(unittest.TestCase):
             self.assertFalse(compare(bad, EXAMPLE).done)
 
     def test_arguments(self):
-        for bad in [None, [0] * 4, "PE", 4, memoryview(bytes(4))]:
+        for bad in [None, [0] * 4, "PE", 4]:
             for name, lent in [("first", (bad, EXAMPLE)), ("second", (EXAMPLE, bad))]:
                 with self.assertRaisesRegex(TypeError, rf"\b{name}\b"):
                     compare(*lent)
         one = bytearray(EXAMPLE)  # what is only read may be shared
-        self.assertEqual(compare(one, one).differences, [])
+        self.assertEqual(compare(one, memoryview(one)).differences, [])
 
 
 class Arguments(unittest.TestCase):
     """What can't be lent is refused before the call, and says which argument it is."""
 
-    def refused(self, error, name, call, *arguments):
+    def refused(self, error, name, call, *arguments, **named):
         with self.assertRaisesRegex(error, rf"\b{name}\b"):
-            call(*arguments)
+            call(*arguments, **named)
 
     def test_words(self):
         for call in [decode, lambda word: store(scatter(), 0, bytearray(), word, bytearray()), lambda word: element(scatter(), word, 0)]:
@@ -594,9 +596,9 @@ class Arguments(unittest.TestCase):
             self.refused(error, "number", element, scatter(), SCATTER, bad)
             for name in ["vb", "flags", "sp"]:
                 machine = scatter()
-                setattr(machine, name, bad)
-                self.refused(error, name, store, machine, 0, bytearray(8), SCATTER, bytearray(31))
-                self.refused(error, name, element, machine, SCATTER, 0)
+                self.refused(error, name, setattr, machine, name, bad)
+                self.refused(error, name, Machine, **{name: bad})
+                self.assertEqual(machine, scatter())
             for name in ["class_", "index", "extension", "predicate", "base", "register"]:
                 self.refused(error, name, encode, Store(**{"class_": 6, name: bad}))
         for multiple in [2**63, -2**63 - 1]:
@@ -605,43 +607,63 @@ class Arguments(unittest.TestCase):
     def test_x(self):
         for bad, error in [([0] * 30, ValueError), ([0] * 32, ValueError), ([0] * 30 + [2**64], ValueError), ([0] * 30 + [-1], ValueError),
                            ([0] * 30 + [None], TypeError), (bytes(31), TypeError), ("0" * 31, TypeError), (0, TypeError)]:
-            self.refused(error, "x", store, Machine(x=bad), 0, bytearray(8), SCATTER, bytearray(31))
+            self.refused(error, "x", Machine, x=bad)
+            machine = scatter()
+            self.refused(error, "x", setattr, machine, "x", bad)
+            self.assertEqual(machine, scatter())
 
     def test_buffers(self):
         memory, patch = bytearray(b"\x77" * 8), bytearray(b"\x77" * 31)
-        for bad in [None, [0] * 8, "12345678", 8, memoryview(bytes(8))]:
+        for bad in [None, [0] * 8, "12345678", 8]:
             self.refused(TypeError, "memory", apply, 0x1000, bad, EXAMPLE)
             self.refused(TypeError, "patch", apply, 0x1000, memory, bad)
             self.refused(TypeError, "patch", judge, bad)
             for name in ["z", "p"]:
                 machine = scatter()
-                setattr(machine, name, bad)
-                self.refused(TypeError, name, store, machine, 0x1000, memory, SCATTER, patch)
+                self.refused(TypeError, name, setattr, machine, name, bad)
+                if bad is not None:
+                    self.refused(TypeError, name, Machine, **{name: bad})
+                self.assertEqual(machine, scatter())
         self.refused(TypeError, "memory", apply, 0x1000, bytes(8), EXAMPLE)
-        common = memoryview(bytearray(40))  # parts of one buffer could overlap
-        for bad in [None, [0] * 8, "12345678", 8, bytes(31), common[4:35]]:
+        for bad in [None, [0] * 8, "12345678", 8, bytes(31), memoryview(bytes(31))]:
             self.refused(TypeError, "memory", store, scatter(), 0x1000, bad, SCATTER, patch)
             self.refused(TypeError, "patch", store, scatter(), 0x1000, memory, SCATTER, bad)
-        self.assertEqual((memory, patch, common), (b"\x77" * 8, b"\x77" * 31, bytes(40)))
+        self.assertEqual((memory, patch), (b"\x77" * 8, b"\x77" * 31))
 
     def test_shared_buffers(self):
         machine, memory, patch = scatter(), bytearray(8), bytearray(EXAMPLE)
-        for name in ["z", "p"]:
+        for name in ["x", "z", "p"]:
             shared = getattr(machine, name)
             self.refused(ValueError, f"memory and {name}", store, machine, 0x1000, shared, SCATTER, patch)
             self.refused(ValueError, f"patch and {name}", store, machine, 0x1000, memory, SCATTER, shared)
-        for one in [patch, bytearray()]:
-            self.refused(ValueError, "memory and patch", store, machine, 0x1000, one, SCATTER, one)
-            self.refused(ValueError, "memory and patch", apply, 0x1000, one, one)
+            self.refused(ValueError, f"memory and {name}", store, machine, 0x1000, memoryview(shared).cast("B")[-1:], SCATTER, patch)
+        self.refused(ValueError, "memory and patch", store, machine, 0x1000, patch, SCATTER, patch)
+        self.refused(ValueError, "memory and patch", apply, 0x1000, patch, patch)
         self.assertEqual((machine, memory, patch), (scatter(), bytes(8), EXAMPLE))
+        empty = bytearray()  # shares no byte
+        self.assertIs(store(machine, 0x1000, empty, SCATTER, empty).verdict, Verdict.FAULT)
+        self.assertIs(apply(0x1000, empty, empty).verdict, Verdict.BAD_PATCH)
         machine.p = machine.z = bytearray(b"\xff" * 512)  # what is only read may be shared
         self.assertIs(store(machine, 0x1000, memory, SCATTER, patch).verdict, Verdict.REGISTERS)
+
+    def test_parts_of_one_buffer(self):
+        """Parts that touch are lent, those that share a byte are not."""
+        common = memoryview(bytearray(39))
+        for first in range(9):
+            memory, patch = common[first:first + 8], common[8:]
+            if first == 0:
+                self.assertTrue(store(scatter(), 0x1000, memory, SCATTER, patch))
+                self.assertEqual(common, b"\xa1\xa3\0\0\0\xa4\0\0" + EXAMPLE)
+            else:
+                self.refused(ValueError, "memory and patch", store, scatter(), 0x1000, memory, SCATTER, patch)
+                self.refused(ValueError, "memory and patch", apply, 0x1000, memory, patch)
+        self.assertEqual(common, b"\xa1\xa3\0\0\0\xa4\0\0" + EXAMPLE)
 
     def test_classes(self):
         self.refused(TypeError, "machine", store, None, 0, bytearray(8), SCATTER, bytearray(31))
         self.refused(TypeError, "machine", element, {}, SCATTER, 0)
         for edition in [None, 256, "early", Flags.SVE]:
-            self.refused(TypeError, "edition", element, Machine(edition=edition), SCATTER, 0)
+            self.refused(TypeError, "edition", Machine, edition=edition)
         self.refused(TypeError, "store", encode, (6, 0, 0, 0, 0, 0, 0))
 
 
@@ -906,7 +928,7 @@ class Declarations(unittest.TestCase):
             types[function] = [type_ for _, some in pairs for type_ in some]
         declared = {function: " ".join(listed.split()) for function, listed in re.findall(r"^uint64_t (\w+)\(([^)]*)\);", header, re.M)}
         self.assertEqual(declared, wanted)
-        self.assertEqual(starshackle._PARAMETERS, types)
+        self.assertEqual(_library.PARAMETERS, types)
 
     def rust(self, name, kind):
         """A parameter of the source as the Rust crate declares it."""
@@ -930,7 +952,7 @@ class Declarations(unittest.TestCase):
         numbers = {name: int(number) for name, number in re.findall(r"^    STARSHACKLE_(\w+) = (\d+)", header, re.M)}
         names = ["LARGEST_STORE_PATCH", "LARGEST_PATCH", "LARGEST_WINDOW", "MOST_DIFFERENCES"]
         here = {name: getattr(starshackle, name) for name in names}
-        here.update((name, getattr(starshackle, f"_{name}")) for name in ["ENTRY_NUMBERS", "NOT_WRITTEN"])
+        here.update((name, getattr(starshackle.patches, f"_{name}")) for name in ["ENTRY_NUMBERS", "NOT_WRITTEN"])
         for enum, prefix in [(Verdict, ""), (Flags, "FLAG_"), (Extension, "EXTENSION_")]:
             here.update((prefix + name, int(value)) for name, value in enum.__members__.items())
         here["FLAG_EARLY"] = int(Edition.EARLY)
@@ -940,7 +962,9 @@ class Declarations(unittest.TestCase):
 
 def load_tests(_loader, tests, _pattern):
     """The docstrings' examples too."""
-    tests.addTests(doctest.DocTestSuite(starshackle))
+    for path in sorted(pathlib.Path(starshackle.__file__).parent.glob("*.py")):
+        module = "starshackle" if path.stem == "__init__" else f"starshackle.{path.stem}"
+        tests.addTests(doctest.DocTestSuite(importlib.import_module(module)))
     return tests
 
 

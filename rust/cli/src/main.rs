@@ -71,6 +71,9 @@ fn main() -> ExitCode {
             Err(failure) => complain(command, &failure),
         },
         None if first.as_ref().map_or(false, asks_for_help) => help_on(words),
+        None if first.as_ref().map_or(false, |word| word == "--version") => {
+            answer(Report::new(format!("starshackle {}\n", starshackle::VERSION), false))
+        }
         None => fail(&format!("starshackle: {}\n{USAGE}", no_command(first).0)),
     }
 }
@@ -110,7 +113,7 @@ fn help() -> String {
     }
     help + "
 `starshackle help COMMAND` describes a command. With --json the answer is JSON; docs/JSON.md has
-its keys.
+its keys. `starshackle --version` names the version.
 Exit status: 0 done, 1 refused by the model, 2 bad usage or an unreadable file; of compare: 0
 nothing differs, 1 something does, 2 anything else.
 "

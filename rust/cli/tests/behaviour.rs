@@ -1,7 +1,7 @@
 //! What the command line does beyond the answers in `tests/golden/`.
 
 use std::fs;
-use std::path::Path;
+use std::path::{Path, PathBuf};
 use std::process::{Command, Output, Stdio};
 
 /// Words of all classes.
@@ -57,6 +57,14 @@ fn decode_takes_bytes() {
     }
 }
 
+#[test]
+fn the_version_is_that_of_the_repository() {
+    let root = Path::new(env!("CARGO_MANIFEST_DIR")).join("../..");
+    let version = fs::read_to_string(root.join("VERSION")).unwrap();
+    let answer = text_of(command(&["--version"]).output().unwrap());
+    assert_eq!(answer, format!("starshackle {version}"));
+}
+
 /// The README's copy is true, but for the line of assembly, which it leaves out.
 #[test]
 fn the_readme_shows_the_first_answer() {
@@ -74,7 +82,9 @@ fn the_readme_shows_the_first_answer() {
 #[test]
 fn examples_give_every_register() {
     let folder = Path::new(env!("CARGO_MANIFEST_DIR")).join("../../examples");
-    for file in fs::read_dir(folder).unwrap().map(|entry| entry.unwrap().path()) {
+    let is_store = |file: &PathBuf| file.extension().map_or(false, |end| end == "store");
+    let files = fs::read_dir(folder).unwrap().map(|entry| entry.unwrap().path());
+    for file in files.filter(is_store) {
         let output = command(&["run", "--require-registers"]).arg(&file).output().unwrap();
         let forgets = file.ends_with("forgotten-register.store");
         assert_eq!(output.status.code() == Some(2), forgets, "{}", file.display());

@@ -45,7 +45,8 @@ fn every_store_is_run() {
         .map(|file| fs::read_to_string(file).unwrap())
         .collect();
     for folder in ["examples", "rust/cli/tests/stores"] {
-        for file in files(folder) {
+        let is_store = |file: &PathBuf| file.extension().map_or(false, |end| end == "store");
+        for file in files(folder).into_iter().filter(is_store) {
             let name = format!("{folder}/{}", file.file_name().unwrap().to_str().unwrap());
             let answered = |line: String| golden.contains(&format!("{PROMPT} {line}\n"));
             assert!(answered(format!("run {name}")), "{name}");

@@ -5,6 +5,9 @@
 //! use it. A call answers what it did, or a [`Refusal`] with document 01's number and name. A
 //! refused call has written nothing.
 //!
+//! The library is looked for in the folder that the variable `STARSHACKLE_LIB_DIR` names. Where
+//! there is none, the repository's is taken, or else an installed one that `pkg-config` finds.
+//!
 //! | call | what it answers |
 //! |---|---|
 //! | [`decode`], [`encode`] | the store that a word names, and the word that names a store |
@@ -80,6 +83,9 @@ pub use store::{store, Stored};
 pub use verdict::{Refusal, Verdict};
 pub use window::Window;
 pub use word::{decode, encode, Extension, Store};
+
+/// The version of this crate, which the header, the command line and the Python package share.
+pub const VERSION: &str = env!("CARGO_PKG_VERSION");
 
 /// A decoded store as numbers: class, index, extension, predicate, base, register, multiple, 0.
 pub type Fields = [u64; 8];
