@@ -15,7 +15,7 @@ use Rattle.reading.specs.Stops.{runsIn}
 use Rattle.reading.specs.declared.Step.{Step}
 use Rattle.reading.specs.declared.Step.the-variants.{Next, End, Bad}
 use Rattle.reading.specs.declared.Cursor.{Cursor}
-use Rattle.reading.proofs.Loops.{rest}
+use Rattle.reading.proofs.Loops.{rest, rest-step}
 use Rattle.reading.proofs.Steps.{step-next-inv}
 use Rattle.patch.specs.Placing.{runsRead, setOf}
 use Rattle.patch.proofs.Patches.{patch-read}
@@ -24,13 +24,6 @@ use Rattle.comparing.specs.Merging.{Ends, leftOf, Fit, Fronted, Started,
 use Rattle.comparing.specs.declared.fronts.Front.{Front}
 
 -- ---- the run that a cursor comes to
-
-rest-step : (s : List ℕ) (c : Cursor) (w : Step) → c .runs ≤ maxRuns → stepAt s c ≡ w
-    → rest s c ≡ onStep (scan (maxRuns - c .runs) s) s c w
-unfolding rest scan
-rest-step s c w h e =
-    let q : suc maxRuns - c .runs ≡ suc (maxRuns - c .runs) = omega arith in
-    ap (λ (n : ℕ). scan n s c) q ∙ ap (onStep (scan (maxRuns - c .runs) s) s c) e
 
 runs-before : (r : Run) (o : Found) → runsIn (before r o) ≡ r ∷ runsIn o
 runs-before r (whole rs e) = refl

@@ -27,7 +27,7 @@ unfoldable pub stopFrom : Cursor → Found → Stop
 stopFrom c (whole rs e) = stop true c rs (e - 4)
 stopFrom c (broken rs a) = stop false c rs a
 
-rest-step : (s : List ℕ) (c : Cursor) (w : Step) → c .runs ≤ maxRuns → stepAt s c ≡ w
+pub rest-step : (s : List ℕ) (c : Cursor) (w : Step) → c .runs ≤ maxRuns → stepAt s c ≡ w
     → rest s c ≡ onStep (scan (maxRuns - c .runs) s) s c w
 unfolding rest scan
 rest-step s c w h e =

@@ -12,7 +12,8 @@ use lib.Seq.{getD-set-same, getD-set-other, set-getD}
 use borrow.Author.Tests.{eq-eqb, ne-eqb, ltb-true}
 use Rattle.endian.proofs.Order.{both}
 use Rattle.ordering.specs.Keys.{numberOf, entries, sorted, Each}
-use Rattle.ordering.proofs.Sorting.{entries-cons, entries-none, entries-all, entries-same, entries-snoc, length-entries, entry, Asc, asc-sorted}
+use Rattle.ordering.proofs.Sorting.{entries-cons, entries-none, entries-all, entries-same, entries-snoc, length-entries, entry, Asc}
+use Rattle.ordering.proofs.Sorting.{asc-sorted}
 use Rattle.stretches.specs.Stretches.{startOf, bytesOf, joinedFrom, joined, ascendsFrom, ascends, Sized}
 
 -- ---- the digits of a stretch that grows
@@ -248,7 +249,8 @@ module _ (A : List ℕ) (n size : ℕ) where
       ascending-on s′ g e =
           record {
             same = ap (λ (x : ℕ). r && ascendsFrom size x here left) e
-                ∙ ap (λ (b : Bool). r && cond b (ascendsFrom size (s + size * 256) here left) (ltb s here && ascendsFrom size here here left))
+                ∙ ap (λ (b : Bool). r
+                && cond b (ascendsFrom size (s + size * 256) here left) (ltb s here && ascendsFrom size here here left))
                 (sym (eq-eqb (startOf last + size) (startOf here) g))
                 ∙ told;
           }
@@ -259,7 +261,8 @@ module _ (A : List ℕ) (n size : ℕ) where
       ascending-new r′ g e =
           record {
             same = ap (λ (b : Bool). b && ascendsFrom size here here left) e ∙ and-assoc r (ltb s here) (ascendsFrom size here here left)
-                ∙ ap (λ (b : Bool). r && cond b (ascendsFrom size (s + size * 256) here left) (ltb s here && ascendsFrom size here here left))
+                ∙ ap (λ (b : Bool). r
+                && cond b (ascendsFrom size (s + size * 256) here left) (ltb s here && ascendsFrom size here here left))
                 (sym (ne-eqb (startOf last + size) (startOf here) g))
                 ∙ told;
           }

@@ -21,8 +21,11 @@ returns c =
 order-requires : tie.Need-order-requires
 order-requires c κs =
     let j = c .before .before .before .before .join in
-    let p = c .before .before .before .before .before .before .before .before .pre in
-    (omega (arith, j .ensures .0, j .kept .1 .1 .1 .0, p .1), omega (arith, j .ensures .0, p .2), subst Distinct (sym (j .ensures .1)) (p .3))
+    let p = c .before .before .before .before .before .before .before .before .pre in (
+      omega (arith, j .ensures .0, j .kept .1 .1 .1 .0, p .1),
+      omega (arith, j .ensures .0, p .2),
+      subst Distinct (sym (j .ensures .1)) (p .3),
+    )
 
 same-length-2 : tie.Need-same-length-2
 same-length-2 c = search needs
