@@ -1,5 +1,5 @@
 -- Intervals that lie apart, one after another. Assumes nothing.
-use mathlib.Core.Path.{_≡_, ap}
+use mathlib.Core.Path.{_≡_, sym, ap, _∙_}
 use Prim.Native.Nat.{ℕ, zero, suc, _+_, _-_, _*_, _≤_, _<_}
 use mathlib.Core.List.{[], _∷_}
 use native.Mathlib.Nat.{suc-mul}
@@ -8,9 +8,12 @@ use Rattle.stretches.specs.Intervals.{interval, Separate, total}
 use Rattle.cutting.specs.Cutting.{spaced}
 
 module _ (gap size : ℕ) where
-  pub spaced-next : (p n t : ℕ) → t < n → spaced p gap size (n - t) ≡ interval p size ∷ spaced (p + gap) gap size (n - (t + 1))
+  pub spaced-next : (p p′ n t : ℕ) → t < n → p′ ≡ p + gap
+      → spaced p gap size (n - t) ≡ interval p size ∷ spaced p′ gap size (n - (t + 1))
   unfolding spaced
-  spaced-next p n t h = let w : n - t ≡ suc (n - (t + 1)) = omega arith in ap (spaced p gap size) w
+  spaced-next p p′ n t h e =
+      let w : n - t ≡ suc (n - (t + 1)) = omega arith in
+      ap (spaced p gap size) w ∙ ap (λ (q : ℕ). interval p size ∷ spaced q gap size (n - (t + 1))) (sym e)
 
   pub spaced-none : (p n t : ℕ) → n ≤ t → spaced p gap size (n - t) ≡ []
   unfolding spaced

@@ -55,7 +55,7 @@ returns-2 c =
     let s = t .before .before .before .before in
     let p = s .before .before .before .before .before .pre in
     let d = composing-done _ _ _ _ (p .0 .4) _ _ _ _ (s .put-spaced .ensures .0) refl _ (t .put-trailer .ensures) in
-    ((omega (arith, d .0), s .put-spaced .ensures .1), d .1)
+    ((omega (arith, d .0), omega (arith, s .put-spaced .ensures .1)), d .1)
 
 pub compose-spaced-spec : {M : Type 1} → statement M
 compose-spaced-spec =

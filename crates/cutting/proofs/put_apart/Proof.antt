@@ -1,6 +1,6 @@
 -- `put_apart`: one element after another, each a run. The invariant is `Composing`: with the runs still to come put behind it, the
 -- buffer is what all runs make of it. Assumes nothing.
-use mathlib.Core.Path.{_≡_, ap, _∙_}
+use mathlib.Core.Path.{_≡_, refl, ap, _∙_}
 use Prim.Native.Nat.{ℕ, _+_, _-_, _≤_}
 use native.Mathlib.Omega.{arith}
 use lib.ListN.{length}
@@ -32,7 +32,7 @@ room : (i : tie.In-loop Inv-loop μ-loop)
     × (i .before .loop .to + 12 + entry (i .before) .args .size + 4 ≤ length (i .before .loop .out))
 room i =
     let l = i .before in
-    composing-room _ _ _ _ (entry l .pre .0 .4) _ _ _ _ (l .loop .inv .1) _ _ _ (spaced-next _ _ _ _ _ (i .loop-test .taken))
+    composing-room _ _ _ _ (entry l .pre .0 .4) _ _ _ _ (l .loop .inv .1) _ _ _ (spaced-next _ _ _ _ _ _ (i .loop-test .taken) refl)
 
 loop-holds : tie.Need-loop-holds Inv-loop μ-loop
 loop-holds c =
@@ -71,7 +71,8 @@ loop-again c =
     let a = entry (i .before) .args in
     let w : (l .a + a .size) - l .a ≡ a .size = omega arith in (
       omega arith,
-      composing-next _ _ _ _ (entry (i .before) .pre .0 .4) _ _ _ _ (l .inv .1) _ _ _ _ _ (spaced-next _ _ _ _ _ (i .loop-test .taken))
+      composing-next _ _ _ _ (entry (i .before) .pre .0 .4) _ _ _ _ (l .inv .1) _ _ _ _ _
+          (spaced-next _ _ _ _ _ _ (i .loop-test .taken) (omega arith))
           (c .before .before .put-run .ensures
           ∙ ap (λ (n : ℕ). overwritten (l .out) (l .to) (runBytes (a .w) (a .memory .now) (l .a) n)) w)
           (omega arith),

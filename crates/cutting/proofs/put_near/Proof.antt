@@ -1,6 +1,6 @@
 -- `put_near`: one run after another, each head two numbers. The invariant is `Composing`, as in `put_apart`, and that `head` is the mark
 -- and the next start, less its upper two bytes, which are the first start's. Assumes nothing.
-use mathlib.Core.Path.{_≡_}
+use mathlib.Core.Path.{_≡_, refl}
 use Prim.Native.Nat.{_+_, _-_, _*_, _/_, _^_, _≤_}
 use native.Mathlib.Omega.{arith}
 use lib.ListN.{length}
@@ -38,7 +38,7 @@ room : (i : tie.In-loop Inv-loop μ-loop)
     × (i .before .loop .to + 12 + entry (i .before) .args .size + 4 ≤ length (i .before .loop .out))
 room i =
     let l = i .before in
-    composing-room _ _ _ _ (entry l .pre .0 .4) _ _ _ _ (l .loop .inv .2) _ _ _ (spaced-next _ _ _ _ _ (i .loop-test .taken))
+    composing-room _ _ _ _ (entry l .pre .0 .4) _ _ _ _ (l .loop .inv .2) _ _ _ (spaced-next _ _ _ _ _ _ (i .loop-test .taken) refl)
 
 add-start : tie.Need-add-start Inv-loop μ-loop
 add-start c = let s = c .before .before in omega (arith, inside s, s .pre .0)
@@ -104,7 +104,8 @@ loop-again c =
     let h = (s .args .w + s .args .first) / 2 ^ 48 in (
       omega arith,
       omega (arith, l .inv .1),
-      composing-next _ _ _ _ (p .0 .4) _ _ _ _ (l .inv .2) _ _ _ _ _ (spaced-next _ _ _ _ _ (i .loop-test .taken))
+      composing-next _ _ _ _ (p .0 .4) _ _ _ _ (l .inv .2) _ _ _ _ _
+          (spaced-next _ _ _ _ _ _ (i .loop-test .taken) (omega arith))
           (headed-run _ _ _ _ _ _ _ _ _
           (head-numbers _ _ h _ _ (omega (arith, r, p .0)) (omega (arith, r, p .0, p .1 .1 .1)) (l .inv .1) (omega arith))
           (c .before .before .put-headed .ensures))
