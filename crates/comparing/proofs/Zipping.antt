@@ -1,6 +1,6 @@
 -- Two parts side by side, byte by byte: their entries counted, and put into a list. Assumes nothing.
 use mathlib.Core.Path.{_≡_, refl, sym, ap, ap₂, _∙_, subst}
-use Prim.Native.Nat.{ℕ, zero, suc, _+_, _*_, _^_, _≤_, _<_}
+use Prim.Native.Nat.{ℕ, zero, suc, _+_, _-_, _*_, _^_, _≤_, _<_}
 use mathlib.Core.List.{List, [], _∷_, _++_, append-assoc}
 use mathlib.Core.Bool.{Bool, true, false, cond}
 use mathlib.Core.Option.{Option, none, some}
@@ -9,12 +9,14 @@ use native.Mathlib.Nat.{zero-add, add-zero}
 use native.Mathlib.Numerals.{add-one}
 use lib.ListN.{length, take, drop, getD, set, length-set, length-append, drop-of-length-le}
 use lib.Dec.{eqb, ltb}
-use borrow.Author.Tests.{lt-ltb, le-ltb, eq-eqb, ne-eqb}
-use Rattle.endian.specs.LittleEndian.{Bytes}
-use Rattle.endian.proofs.LittleEndian.{bytes-drop}
+use borrow.Author.Tests.{lt-ltb, le-ltb, eq-eqb, ne-eqb, eqb-true, eqb-false, ltb-false}
+use Rattle.endian.specs.LittleEndian.{Bytes, leVal, leBytes}
+use Rattle.endian.proofs.LittleEndian.{bytes-drop, leBytes-part}
+use Rattle.endian.proofs.Order.{not-both}
+use Rattle.endian.proofs.Parts.{length-part, drop-split}
 use Rattle.comparing.specs.Differences.{Difference, differ}
 use Rattle.comparing.specs.Comparing.{sideNumber, numbersOf}
-use Rattle.comparing.specs.Merging.{zipped, sideAt, put, Parts, Room}
+use Rattle.comparing.specs.Merging.{zipped, sideAt, byteAt, entryAt, sameEight, put, Parts, Room}
 
 -- ---- the first byte of each
 
@@ -74,7 +76,7 @@ zip-other a (b ∷ p) (d ∷ q) h = simp (ne-eqb b d h)
 
 -- ---- at an index
 
-abbrev from : ℕ → List ℕ → List ℕ → ℕ → List Difference
+abbrev pub from : ℕ → List ℕ → List ℕ → ℕ → List Difference
 from a p q i = zipped (a + i) (drop i p) (drop i q)
 
 from-next : (a i : ℕ) (p q : List ℕ) → zipped (suc (a + i)) (behind (drop i p)) (behind (drop i q)) ≡ from a p q (i + 1)
@@ -93,6 +95,99 @@ from-other : (a i : ℕ) (p q : List ℕ) → (sideAt p i ≡ sideAt q i → ⊥
 from-other a i p q h =
     zip-other (a + i) (drop i p) (drop i q) (λ e. h (side-drop p i ∙ e ∙ sym (side-drop q i)))
     ∙ ap (λ (z : List Difference). differ (a + i) (byteOf (drop i p)) (byteOf (drop i q)) ∷ z) (from-next a i p q)
+
+byte-drop : (p : List ℕ) (i : ℕ) → byteAt p i ≡ byteOf (drop i p)
+unfolding byteAt
+byte-drop [] zero = refl
+byte-drop [] (suc i) = refl
+byte-drop (b ∷ p) zero = refl
+byte-drop (b ∷ p) (suc i) = byte-drop p i
+
+pub side-byte : (p : List ℕ) (i : ℕ) → sideAt p i ≡ sideNumber (byteAt p i)
+side-byte p i = side-drop p i ∙ ap sideNumber (sym (byte-drop p i))
+
+pub entry-none : (a : ℕ) (p q : List ℕ) (i : ℕ) → sideAt p i ≡ sideAt q i → entryAt a p q i ≡ []
+unfolding entryAt
+entry-none a p q i e = simp (eq-eqb (sideAt p i) (sideAt q i) e)
+
+pub entry-one : (a : ℕ) (p q : List ℕ) (i : ℕ) → (sideAt p i ≡ sideAt q i → ⊥)
+    → entryAt a p q i ≡ differ (a + i) (byteAt p i) (byteAt q i) ∷ []
+unfolding entryAt
+entry-one a p q i h = simp (ne-eqb (sideAt p i) (sideAt q i) h)
+
+pub entry-length : (a : ℕ) (p q : List ℕ) (i : ℕ) → (sideAt p i ≡ sideAt q i → ⊥) → length (entryAt a p q i) ≡ 1
+entry-length a p q i h = ap length (entry-one a p q i h)
+
+-- put into the list
+pub listed-none : (l : List ℕ) (k a : ℕ) (p q : List ℕ) (i : ℕ) → sideAt p i ≡ sideAt q i
+    → (l ≡ put k l (entryAt a p q i)) × (k ≡ k + 3 * length (entryAt a p q i))
+unfolding put
+listed-none l k a p q i e =
+    let w = sym (entry-none a p q i e) in
+    (ap (put k l) w, sym (add-zero k) ∙ ap (λ (z : List Difference). k + 3 * length z) w)
+
+pub listed-one : (l : List ℕ) (k a : ℕ) (p q : List ℕ) (i : ℕ) → (sideAt p i ≡ sideAt q i → ⊥) → (x y : ℕ) → x ≡ sideAt p i
+    → y ≡ sideAt q i
+    → (set (set (set l k (a + i)) (k + 1) x) (k + 2) y ≡ put k l (entryAt a p q i)) × (k + 3 ≡ k + 3 * length (entryAt a p q i))
+unfolding put
+listed-one l k a p q i h x y ex ey =
+    let w = sym (entry-one a p q i h) in (
+      ap₂ (λ (u v : ℕ). set (set (set l k (a + i)) (k + 1) u) (k + 2) v) (ex ∙ side-byte p i) (ey ∙ side-byte q i) ∙ ap (put k l) w,
+      ap (λ (z : List Difference). k + 3 * length z) w,
+    )
+
+-- an index's entry, and those of the next
+entry-next : (a i : ℕ) (p q : List ℕ) → Bytes p → Bytes q → from a p q i ≡ entryAt a p q i ++ from a p q (i + 1)
+entry-next a i p q g h = go (eqb (sideAt p i) (sideAt q i)) refl
+  where
+    go : (b : Bool) → eqb (sideAt p i) (sideAt q i) ≡ b → from a p q i ≡ entryAt a p q i ++ from a p q (i + 1)
+    go true e =
+        let w = eqb-true (sideAt p i) (sideAt q i) e in
+        from-same a i p q g h w ∙ ap (λ (z : List Difference). z ++ from a p q (i + 1)) (sym (entry-none a p q i w))
+    go false e =
+        let w = eqb-false (sideAt p i) (sideAt q i) e in
+        from-other a i p q w
+        ∙ ap₂ (λ (x y : Option ℕ). differ (a + i) x y ∷ from a p q (i + 1)) (sym (byte-drop p i)) (sym (byte-drop q i))
+        ∙ ap (λ (z : List Difference). z ++ from a p q (i + 1)) (sym (entry-one a p q i w))
+
+-- what both begin with is passed
+zip-front : (a : ℕ) (x p q : List ℕ) → zipped a (x ++ p) (x ++ q) ≡ zipped (a + length x) p q
+unfolding zipped
+zip-front a [] p q = ap (λ (z : ℕ). zipped z p q) (sym (add-zero a))
+zip-front a (b ∷ x) p q =
+    let w : suc a + length x ≡ a + suc (length x) = omega arith in
+    simp (eq-eqb b b refl) (zip-front (suc a) x p q ∙ ap (λ (z : ℕ). zipped z p q) w)
+
+pub eight-few : (p q : List ℕ) (i : ℕ) → length p - i < 8 → false ≡ sameEight p q i
+unfolding sameEight
+eight-few p q i h = simp (lt-ltb (length p - i) 8 h)
+
+pub eight-told : (p q : List ℕ) (i : ℕ) → 8 ≤ length p - i
+    → eqb (leVal (take 8 (drop i p))) (leVal (take 8 (drop i q))) ≡ sameEight p q i
+unfolding sameEight
+eight-told p q i h = simp (le-ltb (length p - i) 8 h)
+
+pub same-eight : (p q : List ℕ) (i : ℕ) → Bytes p → Bytes q → i ≤ length p → length q ≡ length p → sameEight p q i ≡ true
+    → (i + 8 ≤ length p) × ((a : ℕ) → from a p q i ≡ from a p q (i + 8))
+unfolding sameEight
+same-eight p q i g h l e t = go (ltb (length p - i) 8) refl
+  where
+    go : (b : Bool) → ltb (length p - i) 8 ≡ b → (i + 8 ≤ length p) × ((a : ℕ) → from a p q i ≡ from a p q (i + 8))
+    go true w = not-both (sameEight p q i) t (simp w)
+    go false w =
+        let n : 8 ≤ length p - i = ltb-false (length p - i) 8 w in
+        let v : leVal (take 8 (drop i p)) ≡ leVal (take 8 (drop i q)) =
+        eqb-true (leVal (take 8 (drop i p))) (leVal (take 8 (drop i q))) (sym (simp w) ∙ t) in
+        let x = take 8 (drop i p) in
+        let s : x ≡ take 8 (drop i q) =
+        sym (leBytes-part p i 8 g (omega arith)) ∙ ap (leBytes 8) v ∙ leBytes-part q i 8 h (omega arith) in (
+          omega arith,
+          λ a.
+              ap₂ (zipped (a + i)) (drop-split p i 8) (drop-split q i 8 ∙ ap (λ (z : List ℕ). z ++ drop (i + 8) q) (sym s))
+              ∙ zip-front (a + i) x (drop (i + 8) p) (drop (i + 8) q)
+              ∙ ap (λ (z : ℕ). zipped z (drop (i + 8) p) (drop (i + 8) q)) {x = a + i + length x} {y = a + (i + 8)}
+              (omega (arith, length-part p i 8 (omega arith))),
+        )
 
 from-first : (a : ℕ) (p q : List ℕ) → from a p q 0 ≡ zipped a p q
 from-first a p q = ap (λ (z : ℕ). zipped z p q) (add-zero a)
@@ -134,6 +229,36 @@ module _ (p q : List ℕ) (len i n : ℕ) (c : Counting p q len i n) where
   pub counting-last : len ≤ i → (a : ℕ) → n ≡ length (zipped a p q)
   counting-last h a = omega (arith, c .same a, ap length (from-last a i len p q (c .parts) h))
 
+-- ---- entries put one after another
+
+pub put-append : (k : ℕ) (l : List ℕ) (ds es : List Difference) → put k l (ds ++ es) ≡ put (k + 3 * length ds) (put k l ds) es
+unfolding put
+put-append k l [] es = ap (λ (z : ℕ). put z l es) (omega arith)
+put-append k l (differ a o p ∷ ds) es =
+    let m = set (set (set l k a) (k + 1) (sideNumber o)) (k + 2) (sideNumber p) in
+    let w : k + 3 + 3 * length ds ≡ k + 3 * suc (length ds) = omega arith in
+    put-append (k + 3) m ds es ∙ ap (λ (z : ℕ). put z (put (k + 3) m ds) es) w
+
+pub length-put : (k : ℕ) (l : List ℕ) (ds : List Difference) → length (put k l ds) ≡ length l
+unfolding put
+length-put k l [] = refl
+length-put k l (differ a o p ∷ ds) =
+    let x = sideNumber o in
+    length-put (k + 3) (set (set (set l k a) (k + 1) x) (k + 2) (sideNumber p)) ds
+    ∙ length-set (set (set l k a) (k + 1) x) (k + 2) (sideNumber p)
+    ∙ length-set (set l k a) (k + 1) x
+    ∙ length-set l k a
+
+-- parts of one length have room as they are
+pub room-both : (l : List ℕ) (k a : ℕ) (p q : List ℕ) (n : ℕ) → Room l k a p q n → length q ≡ length p → Room l k a p q (length p)
+room-both l k a p q n r e =
+    let g = r .parts in
+    record {
+      parts = record { first = g .first; second = g .second; first-most = omega arith; second-most = omega arith };
+      top = omega (arith, r .top, g .first-most);
+      room = r .room;
+    }
+
 -- ---- put into a list
 
 pub record Filling (l₀ : List ℕ) (at a : ℕ) (p q : List ℕ) (len : ℕ) (l : List ℕ) (i k : ℕ) : Type 0 where
@@ -168,6 +293,39 @@ module _ (l₀ : List ℕ) (at a : ℕ) (p q : List ℕ) (len : ℕ) (l : List �
         same = ap (put k l) (sym w) ∙ c .same;
       }
 
+  pub filling-eight : ((b : ℕ) → from b p q i ≡ from b p q (i + 8)) → Filling l₀ at a p q len l (i + 8) k
+  filling-eight e =
+      record {
+        parts = c .parts;
+        top = c .top;
+        long = c .long;
+        fits = c .fits;
+        index = ap (λ (z : List Difference). k + 3 * length z) (sym (e a)) ∙ c .index;
+        same = ap (put k l) (sym (e a)) ∙ c .same;
+      }
+
+  pub filling-byte-room : k + 3 * length (entryAt a p q i) ≤ length l
+  filling-byte-room =
+      let g = c .parts in
+      let w = entry-next a i p q (g .first) (g .second) in
+      omega (arith, c .index, c .fits, c .long, ap length w, length-append (entryAt a p q i) (from a p q (i + 1)))
+
+  pub filling-byte : (l′ : List ℕ) (k′ : ℕ) → l′ ≡ put k l (entryAt a p q i) → k′ ≡ k + 3 * length (entryAt a p q i)
+      → Filling l₀ at a p q len l′ (i + 1) k′
+  filling-byte l′ k′ el ek =
+      let g = c .parts in
+      let es = entryAt a p q i in
+      let F = from a p q (i + 1) in
+      let w = entry-next a i p q (g .first) (g .second) in
+      record {
+        parts = g;
+        top = c .top;
+        long = ap length el ∙ length-put k l es ∙ c .long;
+        fits = c .fits;
+        index = omega (arith, c .index, ap length w, length-append es F);
+        same = ap₂ (λ (x : ℕ) (y : List ℕ). put x y F) ek el ∙ sym (put-append k l es F) ∙ ap (put k l) (sym w) ∙ c .same;
+      }
+
   pub filling-room : (sideAt p i ≡ sideAt q i → ⊥) → k + 3 ≤ length l
   filling-room h = omega (arith, c .index, c .fits, c .long, ap length (from-other a i p q h))
 
@@ -195,25 +353,7 @@ module _ (l₀ : List ℕ) (at a : ℕ) (p q : List ℕ) (len : ℕ) (l : List �
   pub filling-index : len ≤ i → k ≡ at + 3 * length (zipped a p q)
   filling-index h = omega (arith, c .index, ap length (from-last a i len p q (c .parts) h))
 
--- ---- entries put one after another
-
-pub put-append : (k : ℕ) (l : List ℕ) (ds es : List Difference) → put k l (ds ++ es) ≡ put (k + 3 * length ds) (put k l ds) es
-unfolding put
-put-append k l [] es = ap (λ (z : ℕ). put z l es) (omega arith)
-put-append k l (differ a o p ∷ ds) es =
-    let m = set (set (set l k a) (k + 1) (sideNumber o)) (k + 2) (sideNumber p) in
-    let w : k + 3 + 3 * length ds ≡ k + 3 * suc (length ds) = omega arith in
-    put-append (k + 3) m ds es ∙ ap (λ (z : ℕ). put z (put (k + 3) m ds) es) w
-
-pub length-put : (k : ℕ) (l : List ℕ) (ds : List Difference) → length (put k l ds) ≡ length l
-unfolding put
-length-put k l [] = refl
-length-put k l (differ a o p ∷ ds) =
-    let x = sideNumber o in
-    length-put (k + 3) (set (set (set l k a) (k + 1) x) (k + 2) (sideNumber p)) ds
-    ∙ length-set (set (set l k a) (k + 1) x) (k + 2) (sideNumber p)
-    ∙ length-set (set l k a) (k + 1) x
-    ∙ length-set l k a
+-- ---- entries put into what stands behind others
 
 set-append : (u w : List ℕ) (i x : ℕ) → set (u ++ w) (length u + i) x ≡ u ++ set w i x
 set-append [] w i x = ap (λ (z : ℕ). set w z x) (zero-add i)

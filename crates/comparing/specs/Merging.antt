@@ -1,12 +1,12 @@
 -- What serves the contracts of the code's own functions: two sets walked side by side, and where each side stands. Assumes nothing.
-use Prim.Native.Nat.{ℕ, suc, _+_, _*_, _^_, _≤_}
-use mathlib.Core.Bool.{cond}
+use Prim.Native.Nat.{ℕ, zero, suc, _+_, _-_, _*_, _^_, _≤_}
+use mathlib.Core.Bool.{Bool, false, cond}
 use mathlib.Core.List.{List, [], _∷_, _++_}
-use mathlib.Core.Option.{none, some}
+use mathlib.Core.Option.{Option, none, some}
 use mathlib.Core.Path.{_≡_}
 use lib.Dec.{eqb, ltb}
 use lib.ListN.{length, take, drop, getD, set}
-use Rattle.endian.specs.LittleEndian.{Bytes}
+use Rattle.endian.specs.LittleEndian.{Bytes, leVal}
 use Rattle.writes.specs.Sets.{ByteWrite, write, Run, writesAt, writesOf}
 use Rattle.writes.specs.Sizes.{maxRuns}
 use Rattle.writes.specs.Encoding.{PatchOf}
@@ -51,6 +51,22 @@ zipped a (b ∷ p) (d ∷ q) = cond (eqb b d) (zipped (suc a) p q) (differ a (so
 -- a part's byte at an index as a number, 256 behind its end
 unfoldable pub sideAt : List ℕ → ℕ → ℕ
 sideAt p i = getD p i 256
+
+-- a part's byte at an index
+unfoldable pub byteAt : List ℕ → ℕ → Option ℕ
+byteAt [] i = none
+byteAt (b ∷ p) zero = some b
+byteAt (b ∷ p) (suc i) = byteAt p i
+
+-- the entry of an index, where the parts differ there
+unfoldable pub entryAt : ℕ → List ℕ → List ℕ → ℕ → List Difference
+unfolding sideAt byteAt
+entryAt a p q i = cond (eqb (sideAt p i) (sideAt q i)) [] (differ (a + i) (byteAt p i) (byteAt q i) ∷ [])
+
+-- whether eight bytes from an index on are there, and the same
+unfoldable pub sameEight : List ℕ → List ℕ → ℕ → Bool
+unfolding leVal
+sameEight p q i = cond (ltb (length p - i) 8) false (eqb (leVal (take 8 (drop i p))) (leVal (take 8 (drop i q))))
 
 -- entries put into a list from index k on
 unfoldable pub put : ℕ → List ℕ → List Difference → List ℕ

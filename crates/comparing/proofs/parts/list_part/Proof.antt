@@ -1,141 +1,31 @@
--- `list_part`: the loop over the addresses. Invariant: the entries to come, put into the list as it is, make the whole. Assumes nothing.
-use mathlib.Core.Path.{_≡_, refl, sym, _∙_}
-use Prim.Native.Nat.{ℕ, _+_, _-_, _≤_}
+-- `list_part`: parts of one length, or others. Assumes nothing.
 use native.Mathlib.Omega.{arith}
-use lib.ListN.{length, set, length-set}
-use Rattle.comparing.specs.Merging.{sideAt}
-use Rattle.comparing.proofs.Zipping.{Filling, filling-first, filling-same, filling-room, filling-other, filling-last, filling-index}
+use Rattle.comparing.proofs.Zipping.{room-both}
 use borrow.Author.Needs.{needs}
 use Rattle.comparing.proofs.parts.list_part.Statement.{statement}
 use Rattle.comparing.proofs.parts.list_part.Tie as tie
 
-abbrev Inv-loop : tie.InvT-loop
-Inv-loop list₀ at address p q len i₀ k₀ list i k = Filling list₀ at address p q len list i k
+list-both-requires : tie.Need-list-both-requires
+list-both-requires c κs =
+    let i = c .before in
+    let s = i .before .before .before in
+    (room-both _ _ _ _ _ _ (s .before .pre) (omega (arith, i .if1 .taken)), omega (arith, i .if1 .taken))
 
-abbrev μ-loop : tie.MeasureT-loop
-μ-loop list₀ at address p q len i₀ k₀ list i k = len - i
+same-length : tie.Need-same-length
+same-length c = search needs
 
-loop-holds : tie.Need-loop-holds Inv-loop μ-loop
-loop-holds c = filling-first _ _ _ _ _ _ (c .before .before .before .pre)
+returns : tie.Need-returns
+returns c = c .before .before .list-both .ensures
 
--- ---- where the parts differ
+list-sides-requires : tie.Need-list-sides-requires
+list-sides-requires c κs = search needs
 
-abbrev At : Type 0
-At = tie.Else1 Inv-loop μ-loop
+same-length-2 : tie.Need-same-length-2
+same-length-2 c = search needs
 
-abbrev turn : At → tie.At-loop Inv-loop μ-loop
-turn c = c .before .before .before .before
-
-abbrev st : At → tie.Start Inv-loop μ-loop
-st c =
-    let t = turn c .before .before in
-    t .before .before
-
-unlike : (c : At) → sideAt (st c .args .p .now) (turn c .loop .i) ≡ sideAt (st c .args .q .now) (turn c .loop .i) → ⊥
-unlike c e = c .if1 .left (c .before .before .side .ensures ∙ e ∙ sym (c .before .side2 .ensures))
-
-room : (c : At) → turn c .loop .k + 3 ≤ length (turn c .loop .list)
-room c = filling-room _ _ _ _ _ _ _ _ _ (turn c .loop .inv) (unlike c)
-
-abbrev address : At → ℕ
-address c = st c .args .address + turn c .loop .i
-
--- ---- the needs
-
-side-requires : tie.Need-side-requires Inv-loop μ-loop
-side-requires c κs = search needs
-
-side-requires-2 : tie.Need-side-requires-2 Inv-loop μ-loop
-side-requires-2 c κs = search needs
-
-add-i : tie.Need-add-i Inv-loop μ-loop
-add-i c = omega (arith, c .before .before .before .loop-test .taken)
-
-loop-less : tie.Need-loop-less Inv-loop μ-loop
-loop-less c = omega (arith, c .before .before .before .loop-test .taken)
-
-loop-again : tie.Need-loop-again Inv-loop μ-loop
-loop-again c =
-    let k = c .before .before in
-    filling-same _ _ _ _ _ _ _ _ _ (k .before .before .loop .inv) (sym (k .side .ensures) ∙ c .if1 .taken ∙ c .before .side2 .ensures)
-
-add-list : tie.Need-add-list Inv-loop μ-loop
-add-list c = omega (arith, c .before .before .before .loop-test .taken, c .before .before .before .before .loop .inv .top)
-
-mul-list : tie.Need-mul-list Inv-loop μ-loop
-mul-list c = search needs
-
-slice-write-list : tie.Need-slice-write-list Inv-loop μ-loop
-slice-write-list c = omega (arith, room c)
-
-add-list-2 : tie.Need-add-list-2 Inv-loop μ-loop
-add-list-2 c = omega (arith, room c)
-
-mul-list-2 : tie.Need-mul-list-2 Inv-loop μ-loop
-mul-list-2 c = search needs
-
-slice-write-list-2 : tie.Need-slice-write-list-2 Inv-loop μ-loop
-slice-write-list-2 c = omega (arith, room c, length-set (turn c .loop .list) (turn c .loop .k) (address c))
-
-add-list-3 : tie.Need-add-list-3 Inv-loop μ-loop
-add-list-3 c = omega (arith, room c)
-
-mul-list-3 : tie.Need-mul-list-3 Inv-loop μ-loop
-mul-list-3 c = search needs
-
-slice-write-list-3 : tie.Need-slice-write-list-3 Inv-loop μ-loop
-slice-write-list-3 c =
-    let l = turn c .loop .list in
-    let k = turn c .loop .k in
-    omega (arith, room c, length-set l k (address c), length-set (set l k (address c)) (k + 1) (c .before .before .side .result))
-
-add-k : tie.Need-add-k Inv-loop μ-loop
-add-k c = omega (arith, room c)
-
-add-i-2 : tie.Need-add-i-2 Inv-loop μ-loop
-add-i-2 c = omega (arith, c .before .before .before .loop-test .taken)
-
-loop-less-2 : tie.Need-loop-less-2 Inv-loop μ-loop
-loop-less-2 c = omega (arith, c .before .before .before .loop-test .taken)
-
-loop-again-2 : tie.Need-loop-again-2 Inv-loop μ-loop
-loop-again-2 c =
-    let k = c .before .before in
-    filling-other _ _ _ _ _ _ _ _ _ (k .before .before .loop .inv) (unlike c) _ _ _ refl (k .side .ensures) (c .before .side2 .ensures)
-
-same-length : tie.Need-same-length Inv-loop μ-loop
-same-length c = c .before .loop .inv .long
-
-returns : tie.Need-returns Inv-loop μ-loop
-returns c = (
-  filling-last _ _ _ _ _ _ _ _ _ (c .before .loop .inv) (c .loop-test .left),
-  filling-index _ _ _ _ _ _ _ _ _ (c .before .loop .inv) (c .loop-test .left),
-)
+returns-2 : tie.Need-returns-2
+returns-2 c = c .before .before .list-sides .ensures
 
 pub list-part-spec : {M : Type 1} → statement M
 list-part-spec =
-    tie.close
-    (tie.spec
-    Inv-loop
-    μ-loop
-    loop-holds
-    side-requires
-    side-requires-2
-    add-i
-    loop-less
-    loop-again
-    add-list
-    mul-list
-    slice-write-list
-    add-list-2
-    mul-list-2
-    slice-write-list-2
-    add-list-3
-    mul-list-3
-    slice-write-list-3
-    add-k
-    add-i-2
-    loop-less-2
-    loop-again-2
-    same-length
-    returns)
+    tie.close (tie.spec list-both-requires same-length returns list-sides-requires same-length-2 returns-2)
