@@ -1,9 +1,11 @@
 """Reading a file that describes a store, as the command line takes it: `starshackle run --help` says how one is written."""
 
 import os
+import re
 from dataclasses import dataclass
-from typing import Callable, Dict, List, Optional, Tuple, TypeVar, Union
+from typing import Callable, Dict, Iterator, List, Optional, Tuple, TypeVar, Union
 
+from . import _assembly, _floats, _gdb
 from .machine import Edition, Flags, Machine
 from .patches import LARGEST_WINDOW
 from .pictures import Picture, picture
@@ -59,22 +61,22 @@ class Described:
 
 
 class _Line:
-    """A line with something in it: its place, what it is about, the width behind a register's name, and its value."""
+    """A line with something in it: its place, what it is about, width and kind behind a register's name, and its value."""
 
     def __init__(self, path: str, number: int, text: str) -> None:
         self.path, self.number = path, number
-        name, equals, value = text.partition("=")
-        if not equals:
+        end = re.search("[={]", text)  # between gdb's names and braces there is no =
+        if not end:
             raise self.problem(f"{_shown(text)}; expected NAME = VALUE")
-        name, self.value = name.strip(), value.strip()
+        name, self.value = text[:end.start()].strip(), text[end.end() if end.group() == "=" else end.start():].strip()
         known = _name(name.lower())
         if known is None:
             raise self.problem(f"unknown name {_shown(name)}; expected {_NAMES}")
-        self.subject, self.width = known
+        self.subject, self.width, self.kind = known
 
     @property
     def name(self) -> str:
-        return self.subject if self.width is None else f"{self.subject}.{self.width}"
+        return ".".join(part for part in (self.subject, self.width, self.kind) if part is not None)
 
     def problem(self, message: str) -> ValueError:
         return ValueError(f"{self.path}:{self.number}: {message}")
@@ -90,6 +92,18 @@ class _Line:
             raise self.unexpected(f"is {_shown(text)}", expected)
         return value
 
+    def finish(self, texts: Iterator[str]) -> None:
+        """Adds the lines up to the brace that closes the value's first one."""
+        braces = _gdb.open_braces(self.value) if self.value.startswith("{") else 0
+        parts = [self.value]
+        while braces > 0:
+            text = next(texts, None)
+            if text is None:
+                raise self.unexpected("has no closing brace", "} behind its values")
+            parts.append(text.strip())
+            braces += _gdb.open_braces(text)
+        self.value = " ".join(parts)
+
     def repeats(self, other: "_Line") -> bool:
         """Whether both are about the same thing."""
         entry, other_entry = _FIELDS.get(self.subject), _FIELDS.get(other.subject)
@@ -103,20 +117,23 @@ def _shown(text: str) -> str:
     return ascii(text[:40] + ".." * (len(text) > 40))
 
 
-def _name(name: str) -> Optional[Tuple[str, Optional[str]]]:
-    """What a line with this name is about, and its width."""
+def _name(name: str) -> Optional[Tuple[str, Optional[str], Optional[str]]]:
+    """What a line with this name is about, its width and its kind."""
     if name in _PLAIN or name in _FIELDS or name == "sp":
-        return name, None
-    name, point, width = name.partition(".")
-    kind, digits = name.rstrip("0123456789"), name[len(name.rstrip("0123456789")):]
+        return name, None, None
+    name, point, behind = name.partition(".")
+    width, second_point, kind = behind.partition(".")
+    if second_point and (not name.startswith("z") or width not in _WIDTHS or not _gdb.kind_of(kind, width)):
+        return None
+    letter, digits = name.rstrip("0123456789"), name[len(name.rstrip("0123456789")):]
     if not digits or digits != str(int(digits[:3])):
         return None
     number = int(digits)
-    if kind == "x" and number <= 30 and not point:
-        return name, None
+    if letter == "x" and number <= 30 and not point:
+        return name, None, None
     if not point or width in _WIDTHS:
-        if kind == "z" and number <= 31 or kind == "p" and number <= 15 or kind == "pn" and 8 <= number <= 15:
-            return f"{kind[0]}{number}", width or None
+        if letter == "z" and number <= 31 or letter == "p" and number <= 15 or letter == "pn" and 8 <= number <= 15:
+            return f"{letter[0]}{number}", width or None, kind or None
     return None
 
 
@@ -161,6 +178,16 @@ def _word(text: str) -> Optional[int]:
     return number if number is not None and number < 1 << 32 else None
 
 
+def _given_word(line: _Line) -> int:
+    """A word by its number or its assembly text, which starts as no number does."""
+    if line.value[:2].lower() != "st":
+        return line.read(_word, "a word of 32 bits, such as 0xA16F6000, or assembly text")
+    word, misread = _assembly.word(line.value)
+    if word is None:
+        raise line.problem(f"word has {misread}")
+    return word
+
+
 # ---- values of registers and memory
 
 def _items(text: str) -> Tuple[List[str], bool]:
@@ -203,6 +230,8 @@ def _bytes(text: str) -> Optional[Tuple[List[int], bool]]:
 def _whole(line: _Line, length: int) -> bytes:
     """A whole register: bytes, or a number."""
     expected = f"{length} bytes in hexadecimal, or 0x and a number of {8 * length} bits"
+    if line.value.startswith("{"):
+        return bytes(_gdb.plain(line, lambda text: _of_bits(text, 8), length, expected))
     if line.value[:2] in ("0x", "0X"):
         digits = line.value[2:]
         if not digits or any(digit not in "0123456789abcdefABCDEF" for digit in digits) or int(digits, 16) >> 8 * length:
@@ -215,12 +244,23 @@ def _whole(line: _Line, length: int) -> bytes:
     return bytes(filled)
 
 
+def _element(text: str, size: int, kind: Optional[str]) -> Optional[int]:
+    """An element. Where its kind isn't given it is how it is written."""
+    if kind == "f" and text[:2] not in ("0x", "0X"):
+        return _floats.of_bits(text, size, integers=True)
+    number = _of_bits(text, 8 * size)
+    return _floats.of_bits(text, size) if number is None and kind is None else number
+
+
 def _vector(line: _Line, length: int) -> bytes:
+    if line.value.startswith("{"):
+        return _gdb.vector(line, length, _element)
     if line.width is None:
         return _whole(line, length)
     size = _WIDTHS[line.width]
-    expected = f"{_count(length // size, 'number')} of {8 * size} bits, decimal or 0x hexadecimal, with spaces between them"
-    numbers = _row(line, lambda text: _of_bits(text, 8 * size), length // size, expected)
+    floating = ", or floating-point" * (2 <= size <= 8)
+    expected = f"{_count(length // size, 'number')} of {8 * size} bits, decimal or 0x hexadecimal{floating}, with spaces between them"
+    numbers = _row(line, lambda text: _element(text, size, line.kind), length // size, expected)
     return b"".join(number.to_bytes(size, "little") for number in numbers)
 
 
@@ -230,8 +270,27 @@ def _predicate(line: _Line, length: int) -> bytes:
         return _whole(line, length)
     size = _WIDTHS[line.width]
     expected = f"{_count(8 * length // size, 'bit')}, each 0 or 1, with spaces between them"
-    bits = _row(line, {"0": 0, "1": 1}.get, 8 * length // size, expected)
+    read = _gdb.plain if line.value.startswith("{") else _row
+    bits = read(line, {"0": 0, "1": 1}.get, 8 * length // size, expected)
     return sum(bit << k * size for k, bit in enumerate(bits)).to_bytes(length, "little")
+
+
+def _contents(line: _Line, folder: str, length: Optional[int]) -> bytearray:
+    """The bytes of a file that a line names, as many as a line about the length says, if there is one."""
+    name = line.value[1:]
+    shown = f"is {_shown(line.value)}"
+    if name in ("", "-"):
+        raise line.unexpected(shown, "@ and the name of a file")
+    try:
+        with open(os.path.join(folder, name), "rb") as file:
+            content = file.read(LARGEST_WINDOW + 1)
+    except OSError as error:
+        raise line.unexpected(f"{shown}: {error.strerror}", "a file of bytes") from error
+    if len(content) > LARGEST_WINDOW:
+        raise line.unexpected(f"{shown}, which has more than {LARGEST_WINDOW} bytes", "no more than a window has")
+    if length is not None and len(content) != length:
+        raise line.unexpected(f"{shown}, which has {_count(len(content), 'byte')}", f"{length} as length says")
+    return bytearray(content)
 
 
 def _memory(line: _Line, length: Optional[int]) -> bytearray:
@@ -322,6 +381,16 @@ def _text(path: str) -> str:
     return content.decode("utf-8")
 
 
+def _without_comment(text: str) -> str:
+    """A # starts one, except in [ ]."""
+    inside = False
+    for index, letter in enumerate(text):
+        inside = (inside or letter == "[") and letter != "]"
+        if letter == "#" and not inside:
+            return text[:index]
+    return text
+
+
 def read_store(path: Union[str, "os.PathLike[str]"]) -> Described:
     """The store that a file describes. What is wrong with a file raises a ValueError that names its line.
 
@@ -336,11 +405,12 @@ def read_store(path: Union[str, "os.PathLike[str]"]) -> Described:
     path = os.fspath(path)
     text = _text(path)
     lines: Dict[str, _Line] = {}
-    for number, content in enumerate(text.lstrip("\ufeff").split("\n"), 1):
-        content = content.partition("#")[0].strip()
-        if not content:
+    texts = enumerate(map(_without_comment, text.lstrip("\ufeff").split("\n")), 1)
+    for number, content in texts:
+        if not content.strip():
             continue
-        line = _Line(path, number, content)
+        line = _Line(path, number, content.strip())
+        line.finish(text for _, text in texts)
         for other in lines.values():
             if line.repeats(other):
                 given = f"{line.name} given twice, first" if line.name == other.name else f"{line.name} given beside {other.name}"
@@ -348,7 +418,7 @@ def read_store(path: Union[str, "os.PathLike[str]"]) -> Described:
         lines[line.subject] = line
     fields = [line for line in lines.values() if line.subject in _FIELDS]
     if "word" in lines:
-        word = lines["word"].read(_word, "a word of 32 bits, such as 0xA16F6000")
+        word = _given_word(lines["word"])
     elif fields:
         word = _encoded(fields)
     else:
@@ -357,7 +427,9 @@ def read_store(path: Union[str, "os.PathLike[str]"]) -> Described:
     machine = _machine(lines)
     base = lines["window"].read(_number, _NUMBER) if "window" in lines else 0
     length = lines["length"].read(_number, _NUMBER) if "length" in lines else None
-    if "memory" in lines:
+    if "memory" in lines and lines["memory"].value.startswith("@"):
+        memory = _contents(lines["memory"], os.path.dirname(path), length)
+    elif "memory" in lines:
         memory = _memory(lines["memory"], length)
     else:
         memory = bytearray(min(length or 0, LARGEST_WINDOW + 1))

@@ -1,7 +1,10 @@
 """Store files and pictures: as the command line reads and runs them."""
 
+import dataclasses
+import fractions
 import html.parser
 import json
+import os
 import pathlib
 import random
 import re
@@ -11,7 +14,8 @@ import tempfile
 import unittest
 
 import starshackle
-from starshackle import LARGEST_STORE_PATCH, Flags, Machine, Stored, Verdict, element, picture, read_store
+from starshackle import LARGEST_STORE_PATCH, Flags, Machine, Stored, Verdict, _assembly, _floats, element, picture, read_store
+from texts import ASSEMBLY, FLOATS, GDB, in_gdb
 
 ROOT = pathlib.Path(__file__).resolve().parents[2]
 BINARY = ROOT / "rust/target/release/starshackle"
@@ -110,6 +114,7 @@ class Files(unittest.TestCase):
                  b"class = 6\nextension = UXTW\nzm = 2\nzt = 1", b"class = 31\nmultiple = +2",
                  b"class = 31\nmultiple = -0x10\nfirst = 23", b"zm = 1\nrm = 1", b"extension = up", b"multiple = 9223372036854775808",
                  b"word = 1\nlength = 70000\nmemory = 01 ...", b"word = 1\nmemory = 01 ...", b"word = 1\nmemory = 01 02",
+                 *(b"word = " + text for text in ASSEMBLY), *FLOATS, *GDB,
                  b"word = 1\nvb = 99\nz0 = nonsense", b"word = 1 # = 2\n#\n # x\nvb = 1 6"]
         read = 0
         with tempfile.TemporaryDirectory() as folder:
@@ -120,10 +125,93 @@ class Files(unittest.TestCase):
         self.assertGreater(read, 20)
         self.assertGreater(len(texts) - read, 30)
 
+    def test_assembly(self):
+        """The text of words of every class is read as the word, and the syntax is the command line's."""
+        table = (ROOT / "rust/starshackle/src/assembly.rs").read_text()
+        chosen = random.Random(2)
+        for class_, syntax in enumerate(_assembly.SYNTAX, 1):
+            self.assertIn(f'    "{syntax}",\n', table)
+            for _ in range(20):
+                given = starshackle.Store(class_, 31, 1, chosen.randrange(8), chosen.randrange(32), chosen.randrange(32), 0)
+                words = [starshackle.encode(dataclasses.replace(given, index=index, extension=how, register=register, multiple=multiple))
+                         for index in (0, 31) for how in (0, 2) for register in (given.register, 19) for multiple in (0, -8)]
+                for word in {one.word for one in words if one}:
+                    store = starshackle.decode(word).store
+                    keeps = syntax.endswith("vl}]") and store.multiple != 0 or not syntax.endswith("vl}]") and store.index != 31
+                    self.assertEqual(_assembly.word(" ".join(_assembly._text(store, syntax, keeps))), (word, ""))
+
+    def test_contents(self):
+        """Memory from a file beside the store's, and files that are none of memory."""
+        with tempfile.TemporaryDirectory() as folder:
+            folder = pathlib.Path(folder)
+            (folder / "inner").mkdir()
+            for name, length in [("eight bytes", 8), ("inner/none", 0), ("largest", 65536), ("large", 65537), ("-", 1)]:
+                (folder / name).write_bytes(bytes(range(251)) * 262)
+                os.truncate(folder / name, length)
+            path, read = folder / "some.store", 0
+            for value in ["@eight bytes", "@inner/none", "@largest", "@large", "@./-", "@-", "@", "@none", "@inner",
+                          "@inner/../eight bytes", f"@{folder}/eight bytes", "@eight bytes ...", "@@", "@" + "x" * 5000, "@ eight bytes"]:
+                for length in ["", "length = 8\n", "length = 0\n"]:
+                    path.write_text(f"word = 0xE4428001\nvb = 16\nflags = sve\n{length}memory = {value}\n")
+                    read += self.same(path)
+            self.assertEqual(read, 10)
+
+    def test_gdb(self):
+        """Random registers as gdb prints them are read as their bytes; with a digit changed the views differ, or nothing is changed."""
+        chosen, refused = random.Random(5), 0
+        with tempfile.TemporaryDirectory() as folder:
+            path = pathlib.Path(folder, "gdb.store")
+            for number in range(60):
+                vb = chosen.choice([16, 32, 64, 128, 256])
+                register = bytes(chosen.choice([0, 0, 255, chosen.randrange(256)]) for _ in range(vb))
+                text = in_gdb(register if number % 3 else register[:4] * (vb // 4))
+                text = text.replace(", ", ",\n") if number % 2 else text
+                start = f"word = 0xE4428001\nvb = {vb}\nflags = sve\n"
+                path.write_text(f"{start}z3 {text}\nz1 = {text}\n")
+                self.assertTrue(self.same(path))
+                machine = read_store(path).machine
+                self.assertEqual(machine.z[3 * vb:4 * vb], register if number % 3 else register[:4] * (vb // 4))
+                self.assertEqual(machine.z[vb:2 * vb], machine.z[3 * vb:4 * vb])
+                digits = [index for index, letter in enumerate(text) if letter.isdigit()]
+                index = chosen.choice(digits)
+                path.write_text(f"{start}z1 {text[:index]}{(int(text[index]) + 1) % 10}{text[index + 1:]}\n")
+                refused += not self.same(path)
+        self.assertGreater(refused, 50)
+
+    def test_floats(self):
+        """Numbers are rounded as Python and the command line round them, and halves as exact arithmetic does."""
+        chosen = random.Random(3)
+        for _ in range(3000):
+            text = f"{chosen.choice(['', '-'])}{chosen.randrange(10 ** chosen.choice([1, 5, 20]))}.{chosen.randrange(10 ** 9)}"
+            text += chosen.choice(["", f"e{chosen.randrange(-345, 285)}", f"e{chosen.randrange(-12, 3)}"])
+            with self.subTest(text):
+                self.assertEqual(_floats.of_bits(text, 8), int.from_bytes(struct.pack("<d", float(text)), "little"))
+                half, exact = _floats.of_bits(text, 2), abs(fractions.Fraction(text))
+                if half is None:
+                    self.assertGreaterEqual(exact, 65520)
+                    continue
+                near = [fractions.Fraction(*struct.unpack("<e", struct.pack("<H", max(0, (half & 0x7FFF) + k)))[0].as_integer_ratio())
+                        for k in (-1, 0, 1) if (half & 0x7FFF) + k < 0x7C00]
+                self.assertEqual(abs(exact - near[1]), min(abs(exact - one) for one in near))
+        for bits in range(0, 0x7C00, 7):
+            value = struct.unpack("<e", struct.pack("<H", bits))[0]
+            self.assertEqual(_floats.of_bits(repr(value), 2), bits)
+
+    def test_random_floats(self):
+        """Many numbers in one file, of each size."""
+        chosen = random.Random(4)
+        with tempfile.TemporaryDirectory() as folder:
+            path = pathlib.Path(folder, "floats.store")
+            for width, size, largest in [("h", 2, 4), ("s", 4, 38), ("d", 8, 308)] * 10:
+                numbers = [f"{chosen.uniform(-1, 1):.{chosen.choice([3, 17, 30])}f}e{chosen.randrange(-largest - 12, largest)}"
+                           for _ in range(256 // size)]
+                path.write_text(f"word = st1d {{ z1.d }}, p0, [x0, z2.d]\nvb = 256\nflags = sve\nz1.{width} = {' '.join(numbers)}\n")
+                self.assertTrue(self.same(path))
+
     def test_random_damage(self):
         """Files with bytes changed are read alike, or refused alike."""
         chosen, read = random.Random(1), 0
-        letters = b"0123456789abcdefxzp.=#- \n"
+        letters = b"0123456789abcdefxzp.=#- \n[]{},"
         with tempfile.TemporaryDirectory() as folder:
             path = pathlib.Path(folder, "damaged.store")
             for number in range(150):

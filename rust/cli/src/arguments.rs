@@ -70,12 +70,15 @@ impl Arguments {
         self.switches.contains(&option)
     }
 
+    /// The value of an option that may be given.
+    pub fn given(&self, option: &str) -> Option<&OsStr> {
+        self.values.iter().find(|(other, _)| *other == option).map(|(_, value)| value.as_ref())
+    }
+
     /// The value of an option that has to be given.
     pub fn value(&self, option: &str, expected: &str) -> Result<&OsStr, Usage> {
-        match self.values.iter().find(|(other, _)| *other == option) {
-            Some((_, value)) => Ok(value),
-            None => Err(Usage(format!("no {option}; expected {option} and {expected}"))),
-        }
+        let none = || Usage(format!("no {option}; expected {option} and {expected}"));
+        self.given(option).ok_or_else(none)
     }
 
     /// The operands as texts.

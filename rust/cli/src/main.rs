@@ -20,6 +20,7 @@ mod decode;
 mod encode;
 mod faults;
 mod fields;
+mod floats;
 mod input;
 mod json;
 mod known;
@@ -38,6 +39,7 @@ mod run;
 mod show;
 mod swapped;
 mod verdicts;
+mod views;
 mod wrong_fields;
 
 use arguments::{Arguments, Usage};

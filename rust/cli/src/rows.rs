@@ -9,7 +9,7 @@ use std::ops::Range;
 /// An element with its bytes.
 pub struct Row {
     pub element: Element,
-    bytes: Vec<u8>,
+    pub bytes: Vec<u8>,
 }
 
 /// Bytes of an element that stand out, and why.
@@ -24,19 +24,32 @@ pub fn of(machine: &Machine, word: u32) -> Vec<Row> {
     elements.map(|element| Row::of(machine, element)).collect()
 }
 
+/// The head of the table, with that of the values, if there are some.
+pub fn head(rows: &[Row], value: Option<String>) -> String {
+    let length = rows.first().map_or(0, |row| row.bytes.len());
+    let bytes = with_value(" bytes".to_string(), length, value);
+    format!("element  state     address            {bytes}\n")
+}
+
+/// What is in the column of bytes, and the value behind it.
+fn with_value(bytes: String, length: usize, value: Option<String>) -> String {
+    let width = (3 * length + 1).max(" bytes".len());
+    value.map_or(bytes.clone(), |value| format!("{bytes:<width$}  {value}"))
+}
+
 impl Row {
     fn of(machine: &Machine, element: Element) -> Row {
         let bytes = machine.z.iter().skip(element.index as usize).take(element.bytes as usize);
         Row { element, bytes: bytes.copied().collect() }
     }
 
-    /// Its line in the table, with the mark's bytes in brackets.
-    pub fn text(&self, number: usize, mark: Option<Mark>) -> String {
+    /// Its line in the table, with the mark's bytes in brackets, and its value, if there is one.
+    pub fn text(&self, number: usize, mark: Option<Mark>, value: Option<String>) -> String {
         let state = if self.element.active { "active" } else { "inactive" };
         let address = numbers::address(self.element.address);
         let marked = mark.as_ref().map_or(0..0, |mark| mark.bytes.clone());
         let marked: Vec<bool> = (0..self.bytes.len()).map(|byte| marked.contains(&byte)).collect();
-        let bytes = line(&self.bytes, &marked, ["(", ")"]);
+        let bytes = with_value(line(&self.bytes, &marked, ["(", ")"]), self.bytes.len(), value);
         let name = mark.map_or(String::new(), |mark| format!("  <- {}", mark.name));
         format!("{number:>7}  {state:<8}  {address} {bytes}{name}\n")
     }

@@ -13,6 +13,7 @@ use crate::overlap::Overlap;
 use crate::picture::picture;
 use crate::rows::{self, Row};
 use crate::store::{self, Described};
+use crate::views::{self, View};
 use crate::{cause, numbers, verdicts};
 use starshackle::{Element, Refusal, Stored, Verdict, Window, LARGEST_STORE_PATCH};
 
@@ -21,7 +22,7 @@ pub const COMMAND: Command = Command {
     summary: "runs the store that a file describes and shows what it did",
     help: concat!(
         "\
-usage: starshackle run [--json] [--require-registers] FILE
+usage: starshackle run [--json] [--require-registers] [--as TYPE] FILE
 
 Shows the verdict with its detail and counts, the word's store, each element with its state,
 address and bytes, and the window, with the bytes that active elements have written in brackets.
@@ -38,6 +39,9 @@ All this is the proved model's answer. The assembly text, the note about registe
 given, the notes that say which case of its rule a refusal is (verdicts 1, 3, 4, 5, 6 and 11), the
 notes that say how the counter of a strided store is read, and so why an element is active, and the
 notes that say what is in ( ), are not proved, nor is which other elements fault.
+With --as each element's bytes are shown as numbers too, lowest byte first, which is not proved either.
+TYPE is u8 to u64, i8 to i64, f16, f32 or f64; the bytes that an element stores have to be a multiple
+of its size. Such a number is read back as the same bytes.
 A counter is the low 16 bits of its register. The lowest set one of its bits 0 to 3 is its element
 size, 8 to 64 bits; without one nothing is active. The bits above that one, up to bit log2(4 VB),
 which is 6 at VB 16 and 10 at VB 256, are the count: so many elements of that size, from the first
@@ -58,22 +62,27 @@ the bits that are set and ignored), detail (of a fault: element, and address, wh
 first byte outside the window, modulo 2^64; of an overlap: element, and its first address), faulting
 (a note on a fault: all elements with a byte outside), shares_with (a note on an overlap: the lower
 element), active_elements, bytes_moved, steps, elements (each with element, active, address, which is
-that of its first byte, bytes), window (address, length, memory). They are null where there is
-nothing to say. What has \"proved\": false in it is not proved.
+that of its first byte, bytes), as (what --as shows: type, values, one for each element), window
+(address, length, memory). They are null where there is nothing to say. What has \"proved\": false in
+it is not proved.
 
 Exit status: 0 done, 1 refused by the model, 2 bad usage, an unreadable file, or a register that is
 required and not given.
 "
     ),
-    valued: &[],
+    valued: &[views::AS],
     switches: &[REQUIRE],
     run,
 };
 
 fn run(arguments: &Arguments) -> Result<Report, Failure> {
     let file = arguments.operand(store::EXPECTED)?;
-    let answer = Answer::of(store::read(file)?);
+    let view = View::asked(arguments)?;
+    let answer = Answer { view, ..Answer::of(store::read(file)?) };
     answer.missing.check(arguments, file)?;
+    if let (Some(view), Some(first)) = (view, answer.rows.first()) {
+        view.check(first.bytes.len(), file)?;
+    }
     let text = if arguments.json { format!("{}\n", answer.json()) } else { answer.text() };
     Ok(Report::new(text, answer.outcome.is_err()))
 }
@@ -90,6 +99,8 @@ struct Answer {
     /// None where there are no elements.
     counter: Option<Counter>,
     rows: Vec<Row>,
+    /// As what the elements' bytes are shown too.
+    view: Option<&'static View>,
     faults: Option<Faults>,
     overlap: Option<Overlap>,
     base: u64,
@@ -122,6 +133,7 @@ impl Answer {
             overlap: Overlap::of(&outcome, &rows, base),
             outcome,
             rows,
+            view: None,
             base,
             length,
             memory,
@@ -145,12 +157,14 @@ impl Answer {
         if self.rows.is_empty() {
             return None;
         }
-        let mut text = "element  state     address             bytes\n".to_string();
+        let mut text = rows::head(&self.rows, self.view.map(View::head));
         for (number, row) in self.rows.iter().enumerate() {
             let fault = self.faults.as_ref().and_then(|faults| faults.mark(number));
             let overlap = || self.overlap.as_ref().and_then(|overlap| overlap.mark(number));
-            text += &row.text(number, fault.or_else(overlap));
+            let value = self.view.map(|view| view.text(&row.bytes));
+            text += &row.text(number, fault.or_else(overlap), value);
         }
+        text += &self.view.map_or(String::new(), View::note);
         text += &self.counter.as_ref().map_or(String::new(), Counter::text);
         let faults = self.faults.iter().flat_map(Faults::notes);
         let notes = faults.chain(self.overlap.as_ref().map(Overlap::note));
@@ -199,7 +213,8 @@ impl Answer {
         members.extend(verdicts::store_members(&self.outcome));
         members.push(("faulting", self.faults.as_ref().map(Faults::json).into()));
         members.push(("shares_with", self.overlap.as_ref().map(Overlap::json).into()));
-        members.extend([("elements", self.rows_json()), ("window", self.window_json())]);
+        members.extend([("elements", self.rows_json()), ("as", self.values_json())]);
+        members.push(("window", self.window_json()));
         Json::Object(members)
     }
 
@@ -209,6 +224,12 @@ impl Answer {
         }
         let rows = self.rows.iter().enumerate().map(|(number, row)| row.json(number));
         Json::List(rows.collect())
+    }
+
+    fn values_json(&self) -> Json {
+        let elements = || self.rows.iter().map(|row| &row.bytes[..]);
+        let view = self.view.filter(|_| !self.rows.is_empty());
+        view.map(|view| view.json(elements())).into()
     }
 
     fn window_json(&self) -> Json {

@@ -55,7 +55,7 @@ impl Random {
 #[test]
 fn stores_that_are_cut() {
     let folder = folder("cut");
-    for name in ["whole", "extension", "st1q"] {
+    for name in ["whole", "extension", "st1q", "assembly", "floats", "gdb"] {
         let text = fs::read(example(name)).unwrap();
         for length in (0..text.len()).step_by(5) {
             answers(&folder, "run input", &text[..length]);
@@ -68,8 +68,8 @@ fn stores_that_are_cut() {
 #[test]
 fn stores_that_are_changed() {
     let (folder, mut random) = (folder("changed"), Random(1));
-    let letters = b"\0\n\r #=.-+0x9AFzp\xC3\xFF";
-    for name in ["whole", "masked-lane", "strided", "top"] {
+    let letters = b"\0\n\r #=.-+0x9AFzp[]{},<>\xC3\xFF";
+    for name in ["whole", "masked-lane", "strided", "top", "assembly", "floats", "gdb"] {
         let text = fs::read(example(name)).unwrap();
         for _ in 0..100 {
             let mut text = text.clone();
@@ -105,13 +105,36 @@ fn huge_numbers() {
         let text = format!("{good}{name} = 0xFFFFFFFFFFFFFFFF\n");
         assert_ne!(answers(&folder, "run input", text.as_bytes()), 2, "{name}");
     }
-    for text in [format!("word = {digits}"), format!("vb = {digits}\nword = 0")] {
+    for text in [
+        format!("word = {digits}"),
+        format!("vb = {digits}\nword = 0"),
+        format!("word = st1d {{ z{digits}.d }}, p0"),
+        format!("word = st1d {}", "{ ".repeat(100_000)),
+        format!("word = 0\nvb = 16\nz0 = {}", "{d = ".repeat(100_000)),
+        format!("word = 0\nvb = 16\nz0 = {}{}", "{d = ".repeat(1000), "}".repeat(1000)),
+        format!("word = 0\nvb = 16\nz0 = {{0 <repeats {digits} times>}}"),
+        format!(
+            "word = 0\nvb = 16\nz0 = {{{}}}",
+            "0 <repeats 9999999999999999999 times>,".repeat(1000)
+        ),
+    ] {
         assert_eq!(answers(&folder, "run input", text.as_bytes()), 2);
     }
-    for line in
-        [format!("z0 = 0x{digits}"), format!("p0 = {digits}"), format!("memory = {digits}0")]
-    {
+    for line in [
+        format!("z0 = 0x{digits}"),
+        format!("p0 = {digits}"),
+        format!("memory = {digits}0"),
+        format!("z0.h = {digits}.5 ..."),
+        format!("z0.s = 1e{digits} ..."),
+        format!("z0.d = {digits}e9 ..."),
+    ] {
         assert_eq!(answers(&folder, "run input", format!("{good}{line}").as_bytes()), 2);
+    }
+    for number in [format!("0.{digits}"), format!("{digits}e-100000"), format!("1e-{digits}")] {
+        for width in ["h", "s", "d"] {
+            let text = format!("{good}z0.{width} = {number} ...");
+            assert_ne!(answers(&folder, "run input", text.as_bytes()), 2, "{width}");
+        }
     }
     assert_eq!(answers(&folder, "run input", &vec![b'#'; (16 << 20) + 1]), 2);
 }

@@ -34,7 +34,17 @@ fn vectors(register: &[u8]) -> Vec<String> {
     let by_width =
         widths.iter().map(|(name, width)| format!(".{name} = {}", elements(register, *width)));
     let number = format!(" = 0x{}", hexadecimal(register.iter().rev()));
-    by_width.chain([format!(" = {}", hexadecimal(register)), number]).collect()
+    let in_braces = |width| format!("{{{}}}", elements(register, width).trim().replace(' ', ",\n"));
+    let views =
+        widths.iter().map(|(name, width)| format!("{name} = {{u = {}}}", in_braces(*width)));
+    let views: Vec<String> = views.collect();
+    let with_braces = widths.iter().map(|(name, width)| format!(".{name} = {}", in_braces(*width)));
+    let together = [format!(" {{{}}}", views.join(", ")), format!(" = {}", in_braces(1))];
+    by_width
+        .chain(with_braces)
+        .chain([format!(" = {}", hexadecimal(register)), number])
+        .chain(together)
+        .collect()
 }
 
 /// The lines that give a predicate register.
@@ -42,7 +52,14 @@ fn predicates(register: &[u8]) -> Vec<String> {
     let bits = register.iter().flat_map(|byte| (0..8).map(move |bit| byte >> bit & 1));
     let bits: Vec<String> = bits.map(|bit| bit.to_string()).collect();
     let number = format!(" = 0x{}", hexadecimal(register.iter().rev()));
-    vec![format!(".b = {}", bits.join(" ")), format!(" = {}", hexadecimal(register)), number]
+    let in_braces = elements(register, 1).trim().replace(' ', ", ");
+    vec![
+        format!(".b = {}", bits.join(" ")),
+        format!(".b = {{{}}}", bits.join(", ")),
+        format!(" = {}", hexadecimal(register)),
+        format!(" {{{in_braces}}}"),
+        number,
+    ]
 }
 
 #[test]

@@ -1,8 +1,12 @@
-//! Arm's assembly text of a decoded store, spelled as LLVM's disassembler spells it.
+//! Arm's assembly text of a decoded store, spelled as LLVM's disassembler spells it, and the word of
+//! such a text.
 //!
-//! This module is not proved. It serves messages and the comparison with LLVM.
+//! This module is not proved. It serves messages, the comparison with LLVM, and those who have text.
+
+mod reading;
 
 use crate::{Extension, Store};
+pub use reading::{word, Misread};
 
 /// A line for each class, in order: its syntax as Arm's pages give it, in lower case.
 const SYNTAX: &[&str] = &[
@@ -56,29 +60,42 @@ const SYNTAX: &[&str] = &[
 /// ```
 pub fn text(store: &Store) -> Option<String> {
     let line = usize::try_from(store.class).ok()?.checked_sub(1)?;
-    let syntax = with_option(SYNTAX.get(line)?, store);
-    let stride = if syntax.contains("<Zt4>") { 4 } else { 8 };
+    let syntax = SYNTAX.get(line)?;
+    let default = if syntax.contains("<imm>") { store.multiple == 0 } else { store.index == 31 };
+    filled(&with_option(syntax, !default), store)
+}
+
+/// A syntax with a store's registers and numbers in the place of its symbols.
+fn filled(syntax: &str, store: &Store) -> Option<String> {
     let mut parts = syntax.split('<');
     let mut text = parts.next()?.to_string();
     for part in parts {
         let (symbol, literal) = part.split_once('>')?;
-        text += &operand(symbol, stride, store)?;
+        text += &operand(symbol, stride(syntax), store)?;
         text += literal;
     }
     Some(text)
 }
 
-/// The syntax with its optional part, `{, ..}`, kept, or left away where it says the default.
-fn with_option(syntax: &str, store: &Store) -> String {
-    let default = if syntax.contains("<imm>") { store.multiple == 0 } else { store.index == 31 };
+/// How far the registers of a strided store are apart.
+fn stride(syntax: &str) -> u64 {
+    if syntax.contains("<Zt4>") {
+        4
+    } else {
+        8
+    }
+}
+
+/// The syntax with its optional part, `{, ..}`, kept or left away.
+fn with_option(syntax: &str, keeps: bool) -> String {
     let parts = syntax.split_once("{,").and_then(|(before, rest)| {
         let (option, after) = rest.split_once('}')?;
         Some((before, option, after))
     });
     match parts {
         None => syntax.to_string(),
-        Some((before, _, after)) if default => format!("{before}{after}"),
-        Some((before, option, after)) => format!("{before},{option}{after}"),
+        Some((before, option, after)) if keeps => format!("{before},{option}{after}"),
+        Some((before, _, after)) => format!("{before}{after}"),
     }
 }
 

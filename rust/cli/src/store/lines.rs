@@ -1,5 +1,7 @@
-//! The lines of a file that describes a store: `NAME = VALUE`, and `#` before a comment.
+//! The lines of a file that describes a store: `NAME = VALUE`, and `#` before a comment, except in
+//! `[ ]`, where assembly text has it.
 
+use super::gdb;
 use super::names::Name;
 use crate::command::Failure;
 use crate::quote::shown;
@@ -8,7 +10,7 @@ use crate::quote::shown;
 pub struct Line<'a> {
     place: Place<'a>,
     pub name: Name,
-    pub value: &'a str,
+    pub value: String,
 }
 
 /// A line's number, from 1, and its file's name as messages show it.
@@ -41,25 +43,48 @@ impl Line<'_> {
         reader: impl Fn(&str) -> Option<T>,
         expected: &str,
     ) -> Result<T, Failure> {
-        reader(self.value).ok_or_else(|| self.unexpected(&is(self.value), expected))
+        reader(&self.value).ok_or_else(|| self.unexpected(&is(&self.value), expected))
     }
 }
 
 /// The lines of a text. A name stands for one line only.
 pub fn lines<'a>(file: &'a str, text: &'a str) -> Result<Vec<Line<'a>>, Failure> {
     let mut lines: Vec<Line> = Vec::new();
-    for (number, text) in text.trim_start_matches('\u{FEFF}').lines().enumerate() {
-        let text = text.split_once('#').map_or(text, |(before, _)| before).trim();
-        if text.is_empty() {
+    let mut texts = text.trim_start_matches('\u{FEFF}').lines().map(without_comment).zip(1..);
+    while let Some((text, number)) = texts.next() {
+        if text.trim().is_empty() {
             continue;
         }
-        let line = line(Place { file, number: number + 1 }, text)?;
+        let mut line = line(Place { file, number }, text.trim())?;
+        finish(&mut line, texts.by_ref().map(|(text, _)| text))?;
         if let Some(other) = lines.iter().find(|other| other.name.repeats(&line.name)) {
             return Err(line.problem(&repetition(other, &line.name)));
         }
         lines.push(line);
     }
     Ok(lines)
+}
+
+/// Adds the lines up to the brace that closes a value's first one.
+fn finish<'a>(line: &mut Line, mut texts: impl Iterator<Item = &'a str>) -> Result<(), Failure> {
+    let mut open = if gdb::is_in_braces(&line.value) { gdb::open(&line.value) } else { 0 };
+    while open > 0 {
+        let no_end = || line.unexpected("has no closing brace", "} behind its values");
+        let text = texts.next().ok_or_else(no_end)?.trim();
+        open += gdb::open(text);
+        line.value += " ";
+        line.value += text;
+    }
+    Ok(())
+}
+
+fn without_comment(text: &str) -> &str {
+    let mut inside = false;
+    let starts = |letter: char| {
+        inside = (inside || letter == '[') && letter != ']';
+        letter == '#' && !inside
+    };
+    text.split(starts).next().unwrap_or_default()
 }
 
 fn repetition(other: &Line, name: &Name) -> String {
@@ -71,12 +96,18 @@ fn repetition(other: &Line, name: &Name) -> String {
 }
 
 fn line<'a>(place: Place<'a>, text: &'a str) -> Result<Line<'a>, Failure> {
-    let (name, value) = text
-        .split_once('=')
+    let (name, value) = parts(text)
         .ok_or_else(|| place.problem(&format!("{}; expected NAME = VALUE", shown(text))))?;
     let unknown = || format!("unknown name {}; expected {}", shown(name.trim()), Name::EXPECTED);
     let name = Name::read(name.trim()).ok_or_else(|| place.problem(&unknown()))?;
-    Ok(Line { place, name, value: value.trim() })
+    Ok(Line { place, name, value: value.trim().to_string() })
+}
+
+/// Name and value. Between gdb's names and braces there is no `=`.
+fn parts(text: &str) -> Option<(&str, &str)> {
+    let index = text.find(&['=', '{'][..])?;
+    let (name, rest) = text.split_at(index);
+    Some((name, rest.strip_prefix('=').unwrap_or(rest)))
 }
 
 /// What a message says of a value.

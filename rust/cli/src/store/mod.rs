@@ -2,6 +2,8 @@
 
 #[macro_use]
 mod help;
+mod contents;
+mod gdb;
 mod lines;
 mod names;
 mod values;
@@ -13,9 +15,10 @@ use crate::wrong_fields::notes;
 use crate::{fields, input, numbers};
 use lines::{is, lines, Line};
 use names::Subject;
-use starshackle::{elements, Edition, Flags, Machine, Refusal, Store, LARGEST_WINDOW};
+use starshackle::{assembly, elements, Edition, Flags, Machine, Refusal, Store, LARGEST_WINDOW};
 use std::collections::BTreeSet;
 use std::ffi::OsStr;
+use std::path::Path;
 
 /// What such a file is, for messages.
 pub const EXPECTED: &str = "a text that describes a store";
@@ -112,7 +115,7 @@ pub fn read(path: &OsStr) -> Result<Described, Failure> {
     let (word, wrong_fields) = word(&lines)?.ok_or_else(|| no_word(&name, &text))?;
     let registers = registers(&lines)?;
     let base = number(&lines, Subject::Window)?.unwrap_or(0);
-    let (length, memory) = window(&lines)?;
+    let (length, memory) = window(&lines, folder(path))?;
     Ok(Described { word, wrong_fields, registers, base, length, memory })
 }
 
@@ -138,14 +141,13 @@ type Word = (Result<u32, Refusal>, Vec<String>);
 /// The given word, or that of the given fields, if any are given.
 fn word(lines: &[Line]) -> Result<Option<Word>, Failure> {
     if let Some(line) = find(lines, Subject::Word) {
-        let expected = "a word of 32 bits, such as 0xA16F6000";
-        return Ok(Some((Ok(line.read(word_number, expected)?), vec![])));
+        return Ok(Some((Ok(given_word(line)?), vec![])));
     }
     let (mut store, mut given) = (Store::default(), Vec::new());
     for line in lines {
         if let Subject::Field(field) = line.name.subject {
-            let put = field.entry.put(&mut store, line.value);
-            put.map_err(|expected| line.unexpected(&is(line.value), expected))?;
+            let put = field.entry.put(&mut store, &line.value);
+            put.map_err(|expected| line.unexpected(&is(&line.value), expected))?;
             given.push((line, field));
         }
     }
@@ -154,6 +156,15 @@ fn word(lines: &[Line]) -> Result<Option<Word>, Failure> {
     }
     let fields: Vec<Field> = given.iter().map(|(_, field)| **field).collect();
     Ok((!given.is_empty()).then(|| (starshackle::encode(store), notes(&store, &fields))))
+}
+
+/// A word by its number or its assembly text, which starts as no number does.
+fn given_word(line: &Line) -> Result<u32, Failure> {
+    if line.value.get(..2).map_or(false, |start| start.eq_ignore_ascii_case("st")) {
+        let problem = |misread| line.problem(&format!("{} has {misread}", line.name));
+        return assembly::word(&line.value).map_err(problem);
+    }
+    line.read(word_number, "a word of 32 bits, such as 0xA16F6000, or assembly text")
 }
 
 /// A number, or a word with a letter in it, as `starshackle decode` shows it.
@@ -224,12 +235,23 @@ fn edition(line: &Line) -> Result<Edition, Failure> {
     line.read(named, "early or late")
 }
 
+/// The folder from which a file names others: its own, or the current one for standard input.
+fn folder(path: &OsStr) -> &Path {
+    match Path::new(path).parent() {
+        Some(folder) if path != input::STANDARD => folder,
+        _ => Path::new(""),
+    }
+}
+
 /// The window's length and bytes.
-fn window(lines: &[Line]) -> Result<(u64, Vec<u8>), Failure> {
+fn window(lines: &[Line], folder: &Path) -> Result<(u64, Vec<u8>), Failure> {
     let length = number(lines, Subject::Length)?;
     match find(lines, Subject::Memory) {
         Some(line) => {
-            let memory = values::memory(line, length, LONGEST)?;
+            let memory = match line.value.strip_prefix('@') {
+                Some(name) => contents::memory(line, folder, name, length)?,
+                None => values::memory(line, length, LONGEST)?,
+            };
             Ok((length.unwrap_or(memory.len() as u64), memory))
         }
         None => {

@@ -10,6 +10,8 @@ pub struct Name {
     pub subject: Subject,
     /// The width behind the name of a register, in bytes.
     pub width: Option<Width>,
+    /// What the elements of a Z register are, behind the width.
+    pub kind: Option<Kind>,
 }
 
 /// What a line is about.
@@ -34,6 +36,37 @@ pub enum Subject {
 pub struct Width {
     pub letter: char,
     pub bytes: usize,
+}
+
+/// What elements are, as gdb has it.
+#[derive(Clone, Copy, PartialEq, Eq)]
+pub enum Kind {
+    Float,
+    Unsigned,
+    Signed,
+}
+
+const KINDS: &[(&str, Kind)] = &[("f", Kind::Float), ("u", Kind::Unsigned), ("s", Kind::Signed)];
+
+impl Kind {
+    /// The kind of a name that elements of a width may be.
+    pub fn named(name: &str, width: Width) -> Option<Kind> {
+        let kind = KINDS.iter().find(|(other, _)| *other == name)?.1;
+        (kind != Kind::Float || width.has_floats()).then_some(kind)
+    }
+}
+
+impl Width {
+    pub const BYTE: Width = width('b', 1);
+
+    pub fn named(letter: &str) -> Option<Width> {
+        WIDTHS.iter().copied().find(|width| letter == width.letter.to_string())
+    }
+
+    /// Whether there are floating-point numbers of this width.
+    pub fn has_floats(self) -> bool {
+        (2..=8).contains(&self.bytes)
+    }
 }
 
 /// As Arm's assembly text has them.
@@ -62,16 +95,21 @@ impl Name {
     pub fn read(text: &str) -> Option<Name> {
         let text = text.to_ascii_lowercase();
         if let Some(subject) = plain(&text) {
-            return Some(Name { subject, width: None });
+            return Some(Name { subject, width: None, kind: None });
         }
-        let (register, width) = match text.split_once('.') {
-            Some((register, letter)) => (register, Some(width_of(letter)?)),
-            None => (&text[..], None),
+        let mut parts = text.split('.');
+        let register = Register::named(parts.next()?)?;
+        let width = parts.next().map(|letter| Width::named(letter).ok_or(())).transpose().ok()?;
+        let kind =
+            parts.next().map(|name| width.and_then(|width| Kind::named(name, width)).ok_or(()));
+        let kind = kind.transpose().ok()?;
+        let takes = match register {
+            Register::Z(_) => true,
+            Register::P(_) => kind.is_none(),
+            _ => width.is_none(),
         };
-        let register = Register::named(register)?;
-        let has_width = matches!(register, Register::Z(_) | Register::P(_));
         let subject = Subject::Register(register);
-        (has_width || width.is_none()).then_some(Name { subject, width })
+        (takes && parts.next().is_none()).then_some(Name { subject, width, kind })
     }
 
     /// Whether both are about the same thing.
@@ -89,10 +127,6 @@ fn plain(text: &str) -> Option<Subject> {
     found.or_else(|| fields::named(text).map(Subject::Field))
 }
 
-fn width_of(letter: &str) -> Option<Width> {
-    WIDTHS.iter().copied().find(|width| letter == width.letter.to_string())
-}
-
 impl Display for Name {
     fn fmt(&self, f: &mut Formatter) -> fmt::Result {
         match self.subject {
@@ -103,7 +137,9 @@ impl Display for Name {
                 f.write_str(name.map_or("", |(name, _)| name))?;
             }
         }
-        self.width.map_or(Ok(()), |width| write!(f, ".{}", width.letter))
+        self.width.map_or(Ok(()), |width| write!(f, ".{}", width.letter))?;
+        let kind = KINDS.iter().find(|(_, kind)| Some(*kind) == self.kind);
+        kind.map_or(Ok(()), |(name, _)| write!(f, ".{name}"))
     }
 }
 
@@ -113,15 +149,16 @@ mod tests {
 
     #[test]
     fn names() {
-        for name in
-            ["word", "zm", "rm", "class", "x0", "x30", "sp", "z31", "z1.q", "p0.b", "memory"]
-        {
+        for name in [
+            "word", "zm", "rm", "class", "x0", "x30", "sp", "z31", "z1.q", "p0.b", "memory",
+            "z1.d.f",
+        ] {
             assert_eq!(Name::read(name).unwrap().to_string(), name);
         }
         assert_eq!(Name::read("PN8").unwrap().to_string(), "p8");
         let wrong = [
             "", "x31", "x01", "x+1", "xzr", "z32", "p16", "pn7", "pn16", "x0.d", "z1.", "z1.w",
-            "z1.d.d",
+            "z1.d.d", "z1.b.f", "z1.q.f", "z1.d.f.f", "p1.d.u", "x1..f",
         ];
         for name in
             wrong.into_iter().chain(["x", "x99999999999999999999", "z1 ", "sp.d", "é", "x٣"])

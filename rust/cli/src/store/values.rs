@@ -1,8 +1,10 @@
 //! The values of registers and memory.
 
+use super::gdb;
 use super::lines::{count, is, Line};
-use super::names::Width;
+use super::names::{Kind, Width};
 use crate::command::Failure;
+use crate::floats;
 use crate::numbers::{self, pairs};
 
 /// Stands behind a last value that is repeated to the end.
@@ -46,16 +48,32 @@ pub fn general(line: &Line) -> Result<u64, Failure> {
 
 /// The bytes of a Z register, from its lowest.
 pub fn vector(line: &Line, length: usize) -> Result<Vec<u8>, Failure> {
-    let Width { bytes, .. } = match line.name.width {
+    let width = match line.name.width {
+        _ if gdb::is_in_braces(&line.value) => return gdb::vector(line, length),
         Some(width) => width,
         None => return whole(line, length),
     };
-    let bits = 8 * bytes as u32;
-    let elements = length / bytes;
-    let expected =
-        count(elements, "number") + &format!(" of {bits} bits, decimal or 0x hexadecimal{SPACES}");
-    let elements = row(line, |text| numbers::of_bits(text, bits), elements, &expected)?;
+    let Width { bytes, .. } = width;
+    let (bits, elements) = (8 * bytes, length / bytes);
+    let floating = if width.has_floats() { ", or floating-point" } else { "" };
+    let expected = count(elements, "number")
+        + &format!(" of {bits} bits, decimal or 0x hexadecimal{floating}{SPACES}");
+    let number = |text: &str| element(text, bytes, line.name.kind);
+    let elements = row(line, number, elements, &expected)?;
     Ok(elements.iter().flat_map(|element| element.to_le_bytes().into_iter().take(bytes)).collect())
+}
+
+/// An element of so many bytes. Where its kind isn't given it is how it is written.
+pub fn element(text: &str, bytes: usize, kind: Option<Kind>) -> Option<u128> {
+    let bits = 8 * bytes as u32;
+    let integer = || numbers::of_bits(text, bits);
+    match kind {
+        Some(Kind::Float) if numbers::behind_0x(text).is_none() => {
+            floats::any(text, bits).map(u128::from)
+        }
+        Some(_) => integer(),
+        None => integer().or_else(|| floats::of_bits(text, bits).map(u128::from)),
+    }
 }
 
 /// The bytes of a P register, from its lowest. A bit is that of an element's first byte.
@@ -66,7 +84,10 @@ pub fn predicate(line: &Line, length: usize) -> Result<Vec<u8>, Failure> {
     };
     let elements = 8 * length / bytes;
     let expected = count(elements, "bit") + ", each 0 or 1" + SPACES;
-    let elements = row(line, bit, elements, &expected)?;
+    let elements = match gdb::is_in_braces(&line.value) {
+        true => gdb::plain(line, bit, elements, &expected)?,
+        false => row(line, bit, elements, &expected)?,
+    };
     let mut register = vec![0; length];
     for (element, bit) in elements.into_iter().enumerate() {
         let index = element * bytes;
@@ -90,7 +111,7 @@ fn row<T: Copy>(
     length: usize,
     expected: &str,
 ) -> Result<Vec<T>, Failure> {
-    let Row { values: texts, goes_on } = items(line.value);
+    let Row { values: texts, goes_on } = items(&line.value);
     let mut values = Vec::new();
     for text in texts {
         values.push(reader(text).ok_or_else(|| line.unexpected(&is(text), expected))?);
@@ -103,7 +124,11 @@ fn row<T: Copy>(
 fn whole(line: &Line, length: usize) -> Result<Vec<u8>, Failure> {
     let bits = 8 * length;
     let expected = format!("{length} bytes in hexadecimal, or 0x and a number of {bits} bits");
-    if let Some(digits) = numbers::behind_0x(line.value) {
+    if gdb::is_in_braces(&line.value) {
+        let byte = |text: &str| numbers::of_bits(text, 8).map(|byte| byte as u8);
+        return gdb::plain(line, byte, length, &gdb::numbers_expected(length, 1));
+    }
+    if let Some(digits) = numbers::behind_0x(&line.value) {
         return line.read(|_| large(digits, length), &expected);
     }
     let bytes = line.read(bytes, &expected)?;
