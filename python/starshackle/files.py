@@ -65,10 +65,10 @@ class _Line:
 
     def __init__(self, path: str, number: int, text: str) -> None:
         self.path, self.number = path, number
-        end = re.search("[={]", text)  # between gdb's names and braces there is no =
-        if not end:
+        parts = _parts(text)
+        if parts is None:
             raise self.problem(f"{_shown(text)}; expected NAME = VALUE")
-        name, self.value = text[:end.start()].strip(), text[end.end() if end.group() == "=" else end.start():].strip()
+        name, self.value = parts
         known = _name(name.lower())
         if known is None:
             raise self.problem(f"unknown name {_shown(name)}; expected {_NAMES}")
@@ -110,6 +110,15 @@ class _Line:
         if entry is None or other_entry is None:
             return self.subject == other.subject or "word" in (self.subject, other.subject) and bool(entry or other_entry)
         return entry == other_entry
+
+
+def _parts(text: str) -> Optional[Tuple[str, str]]:
+    """Name and value. Between those that gdb prints there is no =, and it prints a general register's value twice."""
+    end = re.search("[={]", text)
+    if end:
+        return text[:end.start()].strip(), text[end.end() if end.group() == "=" else end.start():].strip()
+    name, *values = text.split()
+    return (name, " ".join(values)) if len(values) == 2 and re.fullmatch("[xX][0-9]+|[sS][pP]", name) else None
 
 
 def _shown(text: str) -> str:
@@ -176,6 +185,12 @@ def _word(text: str) -> Optional[int]:
     number = _number(text)
     number = _digits(text, 16) if number is None and len(text) == 8 else number
     return number if number is not None and number < 1 << 32 else None
+
+
+def _general(text: str) -> Optional[int]:
+    """A number, or, as gdb prints it, the same number twice."""
+    numbers = [_of_bits(one, 64) for one in text.split()]
+    return numbers[0] if len(numbers) in (1, 2) and len(set(numbers)) == 1 else None
 
 
 def _given_word(line: _Line) -> int:
@@ -356,9 +371,9 @@ def _machine(lines: Dict[str, _Line]) -> Machine:
     for subject, line in lines.items():
         number = int(subject[1:]) if subject[1:].isdigit() else -1
         if subject == "sp":
-            machine.sp = line.read(lambda text: _of_bits(text, 64), general)
+            machine.sp = line.read(_general, general)
         elif subject == f"x{number}":
-            machine.x[number] = line.read(lambda text: _of_bits(text, 64), general)
+            machine.x[number] = line.read(_general, general)
         elif subject == f"z{number}" and length:
             machine.z[number * length:(number + 1) * length] = _vector(line, length)
         elif subject == f"p{number}" and length:

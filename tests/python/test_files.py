@@ -19,7 +19,8 @@ from texts import ASSEMBLY, FLOATS, GDB, in_gdb
 
 ROOT = pathlib.Path(__file__).resolve().parents[2]
 BINARY = ROOT / "rust/target/release/starshackle"
-FILES = sorted([*ROOT.glob("examples/*.store"), *ROOT.glob("rust/cli/tests/stores/*.store")])
+EXAMPLES = sorted(ROOT.glob("examples/*.store"))
+FILES = [*EXAMPLES, *sorted(ROOT.glob("rust/cli/tests/stores/*.store"))]
 
 
 def run(path):
@@ -215,7 +216,7 @@ class Files(unittest.TestCase):
         with tempfile.TemporaryDirectory() as folder:
             path = pathlib.Path(folder, "damaged.store")
             for number in range(150):
-                text = bytearray(chosen.choice(FILES[:22]).read_bytes())
+                text = bytearray(chosen.choice(EXAMPLES).read_bytes())
                 for _ in range(chosen.choice([1, 2, 5])):
                     text[chosen.randrange(len(text))] = chosen.choice(letters)
                 path.write_bytes(text)

@@ -21,9 +21,11 @@ FLOATS = [b"word = st1w { z1.s }, p0, [x0, z2.s, uxtw]\nvb = 16\nflags = sve\nz1
                        b"9" * 9000 + b"e-8990", b"1_0.0", "\u0661.5".encode(), b"1.5f", b"1..5", b"5000000000", b"infinit", b"0.1 1e-45"]]
 # Registers as gdb prints them, right and wrong.
 GDB = [b"word = st1q { z1.q }, p0, [z2.d]\nvb = 32\nflags = sve2p1\nz2.d = 0 0 16 0\np0 = {17 <repeats 4 times>}\nlength = 32\n" + text
-       for text in [b"z1.d = {1, 2, 0x3, -4}", b"z1.d={1.5,2,inf,nan(0x1)}", b"z1.d.f = {1, -0, 0x5, 1e3}", b"z1.d.u = {1.5, 0, 0, 0}",
-                    b"z1.q.f = {1, 2}", b"z1.d.f.f = 1", b"p1.d.u = {1}", b"z1.d.f = 1 2 ...", b"z1 {b = {u = {0 <repeats 32 times>}}}",
-                    b"z1 = {0x1, 2, 3 <repeats 30 times>}", b"z1 = {d = {f = {1,2,3,4}, u = {0x3ff0000000000000...}}}", b"z1.d = {1...}",
+       for text in [b"x1 0x10 16", b"SP  0xffffffffffffffff\t-1", b"x1 1", b"x1 1 2", b"x1 1 1 1", b"x1 = 1 1", b"x1 = 1 2", b"x1 = x x",
+                    b"vb 16 16", b"x31 1 1", b"x1", b"x1 1 x", b"z1.d = {1, 2, 0x3, -4}", b"z1.d={1.5,2,inf,nan(0x1)}",
+                    b"z1.d.f = {1, -0, 0x5, 1e3}", b"z1.d.u = {1.5, 0, 0, 0}", b"z1.q.f = {1, 2}", b"z1.d.f.f = 1", b"p1.d.u = {1}",
+                    b"z1.d.f = 1 2 ...", b"z1 {b = {u = {0 <repeats 32 times>}}}", b"z1 = {0x1, 2, 3 <repeats 30 times>}",
+                    b"z1 = {d = {f = {1,2,3,4}, u = {0x3ff0000000000000...}}}", b"z1.d = {1...}",
                     b"z1 = {d = {u = {1, 0 <repeats 3 times>}}, b = {u = {0 <repeats 32 times>}}}",
                     b"z1 = {\n d = {\n # x\n u = {1,\n2, 3, 4}}\n}", b"z1 = {d = {u = {1, 2, 3, 4}}\nz3 = 1", b"z1 = {d = {x = {1}}}",
                     b"z1 = {x = {1}}", b"z1 = {d = {u = {s = {1}}}}", b"z1 = {}", b"z1.d = {1, 2, 3}", b"z1.d = {1, 2, 3, 4, 5}",

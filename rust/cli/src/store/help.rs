@@ -18,7 +18,7 @@ for FILE is standard input.
   edition = early              the edition of Arm's SVE supplement, early or late; late if not given.
                                vb is 16, 32, 64, 128 or 256; under the early edition, with streaming
                                off, any multiple of 16 from 16 to 256
-  x0 = 0x1000                  x0 to x30
+  x0 = 0x1000                  x0 to x30; `x0 0x1000 4096`, as gdb prints it, will do
   sp = 4096                    the stack pointer
   z2.s = 0 1 -1 0x5            z0 to z31 by elements of a width (b, h, s, d, q), lowest first
   z1.d = 1.5 -0.25 1e-3 inf    in h, s and d a number with a point or an exponent, inf or nan is a

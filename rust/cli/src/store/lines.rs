@@ -2,9 +2,10 @@
 //! `[ ]`, where assembly text has it.
 
 use super::gdb;
-use super::names::Name;
+use super::names::{Name, Subject};
 use crate::command::Failure;
 use crate::quote::shown;
+use crate::register::Register;
 
 /// A line with something in it.
 pub struct Line<'a> {
@@ -103,11 +104,22 @@ fn line<'a>(place: Place<'a>, text: &'a str) -> Result<Line<'a>, Failure> {
     Ok(Line { place, name, value: value.trim().to_string() })
 }
 
-/// Name and value. Between gdb's names and braces there is no `=`.
+/// Name and value. Between those that gdb prints there is no `=`.
 fn parts(text: &str) -> Option<(&str, &str)> {
-    let index = text.find(&['=', '{'][..])?;
+    let index = match text.find(&['=', '{'][..]) {
+        Some(index) => index,
+        None => return twice(text),
+    };
     let (name, rest) = text.split_at(index);
     Some((name, rest.strip_prefix('=').unwrap_or(rest)))
+}
+
+/// A general register as gdb prints it: its name and, in two forms, its value.
+fn twice(text: &str) -> Option<(&str, &str)> {
+    let (name, value) = text.split_once(char::is_whitespace)?;
+    let subject = Name::read(name)?.subject;
+    let is_general = matches!(subject, Subject::Register(Register::X(_) | Register::Sp));
+    (is_general && value.split_whitespace().count() == 2).then_some((name, value))
 }
 
 /// What a message says of a value.

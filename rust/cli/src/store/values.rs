@@ -40,10 +40,18 @@ fn items(text: &str) -> Row<&str> {
     Row { values, goes_on }
 }
 
-/// A general register.
+/// A general register: a number, or as gdb prints it, the same number twice.
 pub fn general(line: &Line) -> Result<u64, Failure> {
     let number = |text: &str| numbers::of_bits(text, 64).map(|number| number as u64);
-    line.read(number, "a number of 64 bits, decimal or 0x hexadecimal")
+    let same = |text: &str| {
+        let numbers: Vec<Option<u64>> = text.split_whitespace().map(number).collect();
+        match numbers[..] {
+            [number] => number,
+            [number, again] if number == again => number,
+            _ => None,
+        }
+    };
+    line.read(same, "a number of 64 bits, decimal or 0x hexadecimal")
 }
 
 /// The bytes of a Z register, from its lowest.
