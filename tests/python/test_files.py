@@ -31,6 +31,12 @@ def run(path):
     return done.returncode, json.loads(done.stdout) if done.stdout else None, done.stderr
 
 
+def body(path):
+    """What stands in the body of the page that the command line makes, and the page."""
+    done = subprocess.run([BINARY, "run", "--html", "-", path], capture_output=True, text=True, check=False)
+    return done.stdout.partition("<body>\n")[2].rpartition("\n</body>")[0], done.stdout
+
+
 class Page(html.parser.HTMLParser):
     """A page's tags, which have to be closed in order, and its texts."""
 
@@ -74,6 +80,7 @@ class Files(unittest.TestCase):
         word = answer["word"]
         self.assertEqual(described.word, None if word is None else int(word, 16), path)
         self.assertEqual((described.base, described.length), (int(answer["window"]["address"], 16), answer["window"]["length"]))
+        self.assertEqual(body(path)[0], described._repr_html_(), path)
         stored = described.run()
         self.assertEqual(stored.verdict, answer["verdict"], path)
         if answer["window"]["memory"] is not None:
@@ -222,6 +229,16 @@ class Files(unittest.TestCase):
                 path.write_bytes(text)
                 read += self.same(path)
         self.assertTrue(20 < read < 140, read)
+
+    def test_long_page(self):
+        """More elements than a page shows, a window that it doesn't show whole, and a name with marks in it."""
+        with tempfile.TemporaryDirectory() as folder:
+            path = pathlib.Path(folder, "<b>&.store")
+            path.write_text("word = 0xA1208000\nvb = 256\nflags = sme2 streaming\npn8 = 0x8002\nx0 = 1024\nlength = 4096\n")
+            self.assertTrue(self.same(path))
+            page = body(path)[1]
+        for text in ["&lt;b&gt;&amp;.store: done (verdict 0)</title>", ".. 768 more", ".. 63 lines with no written byte"]:
+            self.assertIn(text, page)
 
     def test_unreadable(self):
         self.assertRaises(FileNotFoundError, read_store, ROOT / "none.store")

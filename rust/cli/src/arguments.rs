@@ -77,8 +77,8 @@ impl Arguments {
 
     /// The value of an option that has to be given.
     pub fn value(&self, option: &str, expected: &str) -> Result<&OsStr, Usage> {
-        let none = || Usage(format!("no {option}; expected {option} and {expected}"));
-        self.given(option).ok_or_else(none)
+        let problem = || Usage(format!("no {option}; expected {option} and {expected}"));
+        self.given(option).ok_or_else(problem)
     }
 
     /// The operands as texts.

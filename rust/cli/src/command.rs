@@ -1,7 +1,9 @@
 //! What a subcommand is and what it answers.
 
 use crate::arguments::{Arguments, Usage};
+use crate::json::{Json, Members};
 use crate::output::Output;
+use std::io;
 
 pub struct Command {
     pub name: &'static str,
@@ -23,7 +25,7 @@ impl Command {
 }
 
 /// The exit status when the model refuses, of most commands.
-const REFUSED: u8 = 1;
+pub const REFUSED: u8 = 1;
 /// The exit status of bad usage and of files that can't be read or written.
 pub const FAILED: u8 = 2;
 
@@ -45,12 +47,40 @@ impl Report {
     }
 }
 
+/// What is said of one store.
+pub enum Said {
+    Text(String),
+    /// With --json: the members of its object.
+    Members(Members),
+}
+
+/// The answer to one store.
+pub struct One {
+    pub said: Said,
+    pub refused: bool,
+    /// The bytes that go to their place once it is told.
+    pub output: Option<Output>,
+}
+
+impl One {
+    /// The report of a call about this store alone.
+    pub fn report(self) -> Report {
+        let text = match self.said {
+            Said::Text(text) => text,
+            Said::Members(members) => format!("{}\n", Json::Object(members)),
+        };
+        Report { output: self.output, ..Report::new(text, self.refused) }
+    }
+}
+
 /// Why there is no report.
-#[derive(Debug, PartialEq, Eq)]
+#[derive(Debug)]
 pub enum Failure {
     Usage(Usage),
     /// A file can't be read, isn't what was expected, or can't be written.
     File(String),
+    /// Standard output takes no more.
+    Output(io::Error),
 }
 
 impl Failure {

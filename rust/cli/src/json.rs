@@ -2,15 +2,18 @@
 
 use std::fmt::{self, Display, Formatter, Write};
 
+/// The members of an object, in their order.
+pub type Members = Vec<(&'static str, Json)>;
+
 pub enum Json {
     Null,
     Bool(bool),
     Number(i128),
     Text(String),
-    /// Written with a line for each item.
+    /// Written with a line for each item; by `{:#}` in one line.
     List(Vec<Json>),
     /// Written in one line, in this order.
-    Object(Vec<(&'static str, Json)>),
+    Object(Members),
 }
 
 impl Display for Json {
@@ -20,10 +23,14 @@ impl Display for Json {
             Json::Bool(value) => write!(f, "{value}"),
             Json::Number(value) => write!(f, "{value}"),
             Json::Text(text) => quoted(f, text),
-            Json::List(items) => between(f, ['[', ']'], ",\n ", items, |f, item| item.fmt(f)),
+            Json::List(items) => {
+                let separator = if f.alternate() { ", " } else { ",\n " };
+                between(f, ['[', ']'], separator, items, |f, item| item.fmt(f))
+            }
             Json::Object(members) => between(f, ['{', '}'], ", ", members, |f, (key, value)| {
                 quoted(f, key)?;
-                write!(f, ": {value}")
+                f.write_str(": ")?;
+                value.fmt(f)
             }),
         }
     }
@@ -103,6 +110,8 @@ mod tests {
         let list = Json::List(vec![None::<u64>.into(), true.into(), (-2i128).into(), "a".into()]);
         let object = Json::Object(vec![("list", list), ("none", Json::Object(vec![]))]);
         assert_eq!(object.to_string(), "{\"list\": [null,\n true,\n -2,\n \"a\"], \"none\": {}}");
+        let line = "{\"list\": [null, true, -2, \"a\"], \"none\": {}}";
+        assert_eq!(format!("{object:#}"), line);
     }
 
     #[test]

@@ -55,6 +55,10 @@ impl Known {
         )
     }
 
+    pub fn store(&self) -> &Store {
+        &self.store
+    }
+
     /// The number of the class.
     pub fn class(&self) -> u64 {
         self.store.class

@@ -28,16 +28,25 @@ impl Length {
 
     /// The note about it.
     pub fn text(&self) -> String {
-        let Length { vb, edition, rule, .. } = self;
-        let length =
-            if self.given { format!("VB is {vb}") } else { "VB was not given".to_string() };
+        let given = format!("VB is {}", self.vb);
+        let length = if self.given { given } else { "VB was not given".to_string() };
+        format!("{length}; {}", self.allowed())
+    }
+
+    /// The same of any machine, given or not.
+    pub fn rule(&self) -> String {
+        format!("vb is {}; {}", self.vb, self.allowed())
+    }
+
+    fn allowed(&self) -> String {
+        let Length { edition, rule, .. } = self;
         let cause = match (edition, rule) {
             (Edition::Early, LengthRule::OneOfFive) => {
                 "with streaming on, under both editions,".to_string()
             }
             _ => format!("under the {} edition", edition_name(*edition)),
         };
-        format!("{length}; {cause} it may be {rule}")
+        format!("{cause} it may be {rule}")
     }
 
     pub fn json(&self) -> Json {

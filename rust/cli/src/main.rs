@@ -9,6 +9,8 @@
 mod output;
 #[macro_use]
 mod store;
+#[macro_use]
+mod batch;
 mod apply;
 mod arguments;
 mod cause;
@@ -24,7 +26,9 @@ mod floats;
 mod input;
 mod json;
 mod known;
+mod lanes;
 mod length;
+mod look;
 mod missing;
 mod notes;
 mod numbers;
@@ -163,6 +167,7 @@ fn complain(command: &Command, failure: &Failure) -> ExitCode {
             fail(&format!("starshackle {name}: {message}\n{}", command.usage()))
         }
         Failure::File(message) => fail(&format!("starshackle {name}: {message}")),
+        Failure::Output(error) => fail(&format!("starshackle: standard output: {error}")),
     }
 }
 

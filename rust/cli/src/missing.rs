@@ -37,12 +37,17 @@ impl Missing {
 
     /// An error where there are some and the arguments want none.
     pub fn check(&self, arguments: &Arguments, path: &OsStr) -> Result<(), Failure> {
+        let problem = self.problem(arguments, "line");
+        problem.map_err(|problem| Failure::of_file(&input::name(path), &problem))
+    }
+
+    /// The same, by what gives a register.
+    pub fn problem(&self, arguments: &Arguments, giver: &str) -> Result<(), String> {
         if self.names().is_empty() || !arguments.has(REQUIRE) {
             return Ok(());
         }
-        let problem = format!("no line for {}", one_of(self.names()));
-        let expected = format!("{REQUIRE} wants one for each register that the store reads");
-        Err(Failure::of_file(&input::name(path), &format!("{problem}; {expected}")))
+        let problem = format!("no {giver} for {}", one_of(self.names()));
+        Err(format!("{problem}; {REQUIRE} wants one for each register that the store reads"))
     }
 
     /// The line about them, if there are any.

@@ -18,8 +18,14 @@ pub fn address(address: u64) -> String {
 
 /// Bytes as answers show them, in hexadecimal.
 pub fn bytes(bytes: &[u8], separator: &str) -> String {
-    let digits: Vec<String> = bytes.iter().map(|byte| format!("{byte:02X}")).collect();
-    digits.join(separator)
+    let mut text = String::with_capacity(bytes.len() * (2 + separator.len()));
+    for (number, byte) in bytes.iter().enumerate() {
+        text += if number > 0 { separator } else { "" };
+        text.extend(
+            [byte >> 4, byte & 15].map(|digit| char::from(b"0123456789ABCDEF"[usize::from(digit)])),
+        );
+    }
+    text
 }
 
 /// Bytes in hexadecimal, two digits each, with nothing between them.

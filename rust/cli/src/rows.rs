@@ -1,6 +1,7 @@
 //! The elements of a store, a line each.
 
 use crate::json::Json;
+use crate::look::Look;
 use crate::numbers;
 use crate::picture::line;
 use starshackle::{element, Element, Machine};
@@ -27,14 +28,14 @@ pub fn of(machine: &Machine, word: u32) -> Vec<Row> {
 /// The head of the table, with that of the values, if there are some.
 pub fn head(rows: &[Row], value: Option<String>) -> String {
     let length = rows.first().map_or(0, |row| row.bytes.len());
-    let bytes = with_value(" bytes".to_string(), length, value);
-    format!("element  state     address            {bytes}\n")
+    let value = value.map_or(String::new(), |value| behind(" bytes".len(), length, &value));
+    format!("element  state     address             bytes{value}\n")
 }
 
-/// What is in the column of bytes, and the value behind it.
-fn with_value(bytes: String, length: usize, value: Option<String>) -> String {
+/// A value behind so many characters in the column of bytes, which has room for those of an element.
+fn behind(used: usize, length: usize, value: &str) -> String {
     let width = (3 * length + 1).max(" bytes".len());
-    value.map_or(bytes.clone(), |value| format!("{bytes:<width$}  {value}"))
+    format!("{:room$}  {value}", "", room = width - used)
 }
 
 impl Row {
@@ -44,14 +45,35 @@ impl Row {
     }
 
     /// Its line in the table, with the mark's bytes in brackets, and its value, if there is one.
-    pub fn text(&self, number: usize, mark: Option<Mark>, value: Option<String>) -> String {
+    pub fn text(
+        &self,
+        number: usize,
+        mark: Option<Mark>,
+        value: Option<String>,
+        look: &Look,
+    ) -> String {
         let state = if self.element.active { "active" } else { "inactive" };
         let address = numbers::address(self.element.address);
         let marked = mark.as_ref().map_or(0..0, |mark| mark.bytes.clone());
         let marked: Vec<bool> = (0..self.bytes.len()).map(|byte| marked.contains(&byte)).collect();
-        let bytes = with_value(line(&self.bytes, &marked, ["(", ")"]), self.bytes.len(), value);
+        let bytes = line(&marked, ["(", ")"], |byte| {
+            let digits = numbers::bytes(&self.bytes[byte..=byte], "");
+            if self.element.active {
+                look.lane(number, &digits)
+            } else {
+                digits
+            }
+        });
+        // A bracket behind the last byte; codes of colours take no room.
+        let used = 3 * marked.len() + usize::from(marked.last() == Some(&true));
+        let value = value.map_or(String::new(), |value| behind(used, marked.len(), &value));
         let name = mark.map_or(String::new(), |mark| format!("  <- {}", mark.name));
-        format!("{number:>7}  {state:<8}  {address} {bytes}{name}\n")
+        format!("{number:>7}  {state:<8}  {address} {bytes}{value}{name}\n")
+    }
+
+    /// Its bytes with spaces between them.
+    pub fn digits(&self) -> String {
+        numbers::bytes(&self.bytes, " ")
     }
 
     pub fn json(&self, number: usize) -> Json {

@@ -95,13 +95,14 @@ pub fn store_members(outcome: &Result<Stored, Refusal>) -> [(&'static str, Json)
 /// changes its meaning.
 const VERSION: u64 = 1;
 
+/// The member with which every object of an answer starts.
+pub fn version() -> (&'static str, Json) {
+    ("version", VERSION.into())
+}
+
 /// The members with which each answer in JSON starts.
 pub fn members(verdict: Verdict) -> [(&'static str, Json); 3] {
-    [
-        ("version", VERSION.into()),
-        ("verdict", verdict.number().into()),
-        ("verdict_name", verdict.name().into()),
-    ]
+    [version(), ("verdict", verdict.number().into()), ("verdict_name", verdict.name().into())]
 }
 
 #[cfg(test)]

@@ -3,12 +3,9 @@
 //! The bytes are the model's answer. What they are as a number explains it.
 
 use crate::arguments::{one_of, utf_8, Arguments, Usage};
-use crate::command::Failure;
 use crate::floats;
-use crate::input;
 use crate::json::Json;
 use crate::notes;
-use std::ffi::OsStr;
 
 /// The option that asks for it.
 pub const AS: &str = "--as";
@@ -57,18 +54,17 @@ impl View {
     }
 
     /// An error where elements of so many bytes aren't made of such numbers.
-    pub fn check(&self, element: usize, path: &OsStr) -> Result<(), Failure> {
+    pub fn check(&self, element: usize) -> Result<(), String> {
         if element % self.bytes == 0 {
             return Ok(());
         }
         let fitting = VIEWS.iter().filter(|view| element % view.bytes == 0).map(|view| view.name);
-        let problem = format!(
+        Err(format!(
             "{AS} {} takes {} bytes, and the store's elements have {element}; expected {}",
             self.name,
             self.bytes,
             one_of(fitting)
-        );
-        Err(Failure::of_file(&input::name(path), &problem))
+        ))
     }
 
     /// An element's bytes as numbers, mostly one.

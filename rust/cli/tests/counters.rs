@@ -141,7 +141,8 @@ fn json_agrees_with_the_states() {
             assert_eq!(member("store_element_size"), (8 * bytes).to_string());
             assert_eq!(member("every") == "null", size.is_none(), "{json}");
             let every: usize = member("every").parse().unwrap_or(1);
-            for (e, row) in json.split("{\"element\": ").skip(1).enumerate() {
+            let rows = json.split_once("\"written\": ").unwrap().0;
+            for (e, row) in rows.split("{\"element\": ").skip(1).enumerate() {
                 let first = size.map(|size| 8 * bytes * e / size < count);
                 let active = first.map_or(false, |first| first != (member("inverted") == "true"));
                 let active = active && e % every == 0;

@@ -20,6 +20,40 @@ const ROOT: &str = concat!(env!("CARGO_MANIFEST_DIR"), "/../..");
 const PATCH: &[u8; 31] =
     b"PR\x00\x10\0\0\0\0\0\0\x02\0\xA1\xA3PR\x05\x10\0\0\0\0\0\0\x01\0\xA4PE\x02\0";
 
+/// Files with words.
+const WORDS: &[(&str, &[u8])] = &[
+    ("bytes", b"00 60 6f a1\n01 a0 a2 e5\n"),
+    ("words", b"# three words\r\nA16F6000 E4428001\n\n  0xe4208000 # none\nA16F6000h"),
+    ("wrong-words", b"A16F6000\nE4428001 A16F600\nA16F6000\n"),
+    ("broken-bytes", b"00 60 6f\na1 01a0a2\n"),
+];
+
+/// Stores as lines of JSON, those from the fourth on none.
+const LINES: &[&str] = &[
+    concat!(
+        r#"{"word": "E4428001", "vb": 16, "flags": ["sve"], "x0": "0x1000", "z1.s": [161, 162, "0xA3", 164],"#,
+        r#" "z2.s": "0 1 1 5", "p0.s": [1, "..."], "window": 4096, "length": 8}"#
+    ),
+    concat!(
+        r#"{"class":4,"zm":2,"pg":0,"rn":0,"zt":1,"vb":16,"flags":"sve","x0":4096,"z1":"0x11","#,
+        r#""z2.d":[0,"-1"],"p0.d":"0 0","memory":"EEEE"}"#
+    ),
+    r#"{"word": "E582A001", "vb": 16, "flags": ["sve"], "p0": "FF ...", "z2.d": [8, 9], "z1": "11 ..."}"#,
+    r#"{"word": "E4428001", "vb": 16"#,
+    r#"{"word": "E4428001", "word": "E4428001"}"#,
+    "",
+    "[1]",
+    r#"{"vb": 16}"#,
+    r#"{"word": "E4428001", "vb": null}"#,
+    r#"{"word": "E4428001", "x0": {"a": 1}}"#,
+    r#"{"word": "E4428001", "x0": 18446744073709551616}"#,
+    r#"{"word": "E4428001", "x0": "1 # one"}"#,
+    r#"{"word": "E4428001", "x0 = 1\nx1": 1}"#,
+    r#"{"word": "E4428001", "x31": 1}"#,
+    r#"{"word": "E4428001", "vb": 16, "z1": "00 ...", "z1.d": [1, 2]}"#,
+    r#"{"word": "E4428001", "vb": 16, "p0.s": [1, 0, 2, 1]}"#,
+];
+
 #[test]
 fn answers_are_as_stored() {
     let rewrite = env::var_os("STARSHACKLE_GOLDEN").map_or(false, |value| value == "rewrite");
@@ -76,7 +110,6 @@ fn made_files() -> PathBuf {
     let files: &[(&str, &[u8])] = &[
         ("empty", &[]),
         ("memory-8", &[0xEE; 8]),
-        ("bytes", b"00 60 6f a1\n01 a0 a2 e5\n"),
         ("memory-65537", &[0; 65_537]),
         ("no-run.patch", b"PE\0\0"),
         ("cut-in-a-run.patch", &PATCH[..26]),
@@ -90,12 +123,16 @@ fn made_files() -> PathBuf {
         ("random.patch", &[0x9C; 100]),
         ("zeros", &[0; 100]),
     ];
-    for (name, bytes) in files {
+    for (name, bytes) in files.iter().chain(WORDS) {
         fs::write(folder.join(name), bytes).unwrap();
+    }
+    for (name, lines) in [("stores.jsonl", LINES), ("done.jsonl", &LINES[..2])] {
+        fs::write(folder.join(name), lines.join("\n") + "\n").unwrap();
     }
     for (name, bytes) in stores() {
         fs::write(folder.join(name), bytes).unwrap();
     }
+    fs::create_dir(folder.join("patches")).unwrap();
     folder
 }
 

@@ -52,12 +52,46 @@ fn answers() -> Vec<(String, Value)> {
             let end = rest.find("[standard error]").or_else(|| rest.find("[status ")).unwrap();
             let mut words = line.split_whitespace().filter(|word| *word != "--json");
             if line.contains("--json") && end > 0 && !line.starts_with("help") {
-                let value = parser::parse(&rest[..end]).unwrap_or_else(|| panic!("{block}"));
-                answers.push((words.next().unwrap().to_string(), value));
+                let value = |text| parser::parse(text).unwrap_or_else(|| panic!("{block}"));
+                let command = words.next().unwrap();
+                if line.contains("--jsonl") {
+                    let lines = rest[..end].lines().map(|line| of_line(command, value(line)));
+                    answers.extend(lines);
+                } else {
+                    answers.extend(objects(command, value(&rest[..end])));
+                }
             }
         }
     }
     answers
+}
+
+/// An answer to a line, with the table that it has.
+fn of_line(command: &str, answer: Value) -> (String, Value) {
+    let table = if has(&answer, "error") { "Lines" } else { command };
+    (table.to_string(), answer)
+}
+
+fn has(value: &Value, key: &str) -> bool {
+    matches!(value, Value::Object(members) if members.iter().any(|(name, _)| name == key))
+}
+
+/// The objects of an answer, each with the table that it has.
+fn objects(command: &str, answer: Value) -> Vec<(String, Value)> {
+    let items = match answer {
+        Value::List(items) => items,
+        object => return vec![(command.to_string(), object)],
+    };
+    let table = |value: Value| match value {
+        value if has(&value, "error") => ("Many files".to_string(), value),
+        Value::Object(mut members) if command != "decode" => {
+            let (file, _) = members.remove(1);
+            assert_eq!(file, "file", "{command}");
+            (command.to_string(), Value::Object(members))
+        }
+        object => (command.to_string(), object),
+    };
+    items.into_iter().map(table).collect()
 }
 
 /// What was found at a key: names of types, `null` and `absent` among them.
@@ -101,13 +135,8 @@ fn the_document_has_every_key() {
     for (command, value) in answers() {
         let table = tables.get(&command).unwrap_or_else(|| panic!("no table for {command}"));
         let found = commands.entry(command.clone()).or_default();
-        match (&command[..], &value) {
-            ("decode", Value::List(items)) => {
-                items.iter().for_each(|item| walk("", item, table, found))
-            }
-            (_, Value::Object(_)) => walk("", &value, table, found),
-            _ => panic!("{command}: neither an object nor decode's list"),
-        }
+        assert!(matches!(value, Value::Object(_)), "{command}: no object");
+        walk("", &value, table, found);
     }
     assert!(commands.keys().eq(tables.keys()), "a table without answers");
     for (command, found) in &commands {

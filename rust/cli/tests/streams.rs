@@ -133,6 +133,10 @@ fn closed_streams() {
         format!("patch {store} -o out"),
         format!("patch {store} -o -"),
         format!("run {store}"),
+        format!("run {store} {store}"),
+        format!("run --html - {store}"),
+        format!("run --jsonl {store}"),
+        format!("decode --file {store}"),
         "decode A16F6000".to_string(),
         "--help".to_string(),
     ] {
@@ -143,7 +147,7 @@ fn closed_streams() {
     }
     let output = redirected(&folder, &format!("patch {store} -o -"), "2>&-");
     assert_eq!((status(&output), &output.stdout[..]), (2, &b""[..]));
-    for arguments in ["show -", "run -", "decode -"] {
+    for arguments in ["show -", "run -", "run --jsonl", "decode -", "decode --file -"] {
         let output = redirected(&folder, arguments, "<&-");
         assert_eq!((status(&output), &output.stdout[..]), (2, &b""[..]), "{arguments}");
         assert!(text(&output.stderr).contains(": standard input: closed"), "{arguments}");

@@ -1,8 +1,9 @@
-//! Which of the standard streams were open when the process started.
+//! Which of the standard streams were open when the process started, and which are terminals.
 //!
 //! Before `main` Rust opens `/dev/null` in place of those that are closed. Then nothing tells any more
 //! that what is written there is lost, so they are looked at earlier, when the program is loaded.
 
+use std::os::raw::c_int;
 use std::sync::atomic::{AtomicU8, Ordering};
 
 /// A standard stream by its descriptor.
@@ -21,10 +22,19 @@ pub fn was_open(stream: Stream) -> bool {
     CLOSED.load(Ordering::Relaxed) >> stream as u8 & 1 == 0
 }
 
+extern "C" {
+    fn isatty(descriptor: c_int) -> c_int;
+}
+
+/// Whether a stream is a terminal.
+pub fn is_terminal(stream: Stream) -> bool {
+    // SAFETY: it takes any number, reads no memory and changes nothing but errno.
+    was_open(stream) && unsafe { isatty(stream as c_int) } == 1
+}
+
 #[cfg(target_os = "linux")]
 mod early {
-    use super::{Ordering, CLOSED};
-    use std::os::raw::c_int;
+    use super::{c_int, Ordering, CLOSED};
 
     extern "C" {
         fn fcntl(descriptor: c_int, command: c_int, ...) -> c_int;

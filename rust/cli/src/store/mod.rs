@@ -110,12 +110,17 @@ pub fn flag_name(flag: Flags) -> &'static str {
 }
 
 pub fn read(path: &OsStr) -> Result<Described, Failure> {
-    let (text, name) = (input::text(path, EXPECTED)?, input::name(path));
-    let lines = lines(&name, &text)?;
-    let (word, wrong_fields) = word(&lines)?.ok_or_else(|| no_word(&name, &text))?;
+    of_text(&input::name(path), &input::text(path, EXPECTED)?, folder(path))
+}
+
+/// The store that a text describes, whose name is as messages show it. Files that it names are looked
+/// for in the folder.
+pub fn of_text(name: &str, text: &str, folder: &Path) -> Result<Described, Failure> {
+    let lines = lines(name, text)?;
+    let (word, wrong_fields) = word(&lines)?.ok_or_else(|| no_word(name, text))?;
     let registers = registers(&lines)?;
     let base = number(&lines, Subject::Window)?.unwrap_or(0);
-    let (length, memory) = window(&lines, folder(path))?;
+    let (length, memory) = window(&lines, folder)?;
     Ok(Described { word, wrong_fields, registers, base, length, memory })
 }
 

@@ -1,10 +1,12 @@
-//! A strict reader of JSON, for tests.
+//! A strict reader of JSON, for tests, of which each uses a part.
+
+#![allow(dead_code)]
 
 pub enum Value {
     Null,
-    Bool,
+    Bool(bool),
     Number(String),
-    Text,
+    Text(String),
     List(Vec<Value>),
     Object(Vec<(String, Value)>),
 }
@@ -14,11 +16,47 @@ impl Value {
     pub fn kind(&self) -> &'static str {
         match self {
             Value::Null => "null",
-            Value::Bool => "boolean",
+            Value::Bool(_) => "boolean",
             Value::Number(_) => "number",
-            Value::Text => "string",
+            Value::Text(_) => "string",
             Value::List(_) => "list",
             Value::Object(_) => "object",
+        }
+    }
+
+    /// The value of an object's key, if it has it.
+    pub fn get(&self, key: &str) -> Option<&Value> {
+        match self {
+            Value::Object(members) => {
+                members.iter().find(|(name, _)| name == key).map(|(_, value)| value)
+            }
+            _ => None,
+        }
+    }
+
+    pub fn items(&self) -> &[Value] {
+        match self {
+            Value::List(items) => items,
+            _ => &[],
+        }
+    }
+
+    /// A number in decimal, or an address.
+    pub fn number(&self) -> u64 {
+        match self {
+            Value::Number(digits) => digits.parse().unwrap(),
+            Value::Text(text) => u64::from_str_radix(text.strip_prefix("0x").unwrap(), 16).unwrap(),
+            _ => panic!("{}", self.kind()),
+        }
+    }
+
+    /// Bytes in hexadecimal.
+    pub fn bytes(&self) -> Vec<u8> {
+        match self {
+            Value::Text(text) => (0..text.len() / 2)
+                .map(|byte| u8::from_str_radix(&text[2 * byte..][..2], 16).unwrap())
+                .collect(),
+            _ => panic!("{}", self.kind()),
         }
     }
 }
@@ -39,9 +77,9 @@ fn take(rest: &mut &str, token: &str) -> Option<()> {
 fn value(rest: &mut &str) -> Option<Value> {
     match rest.trim_start().chars().next()? {
         'n' => take(rest, "null").map(|()| Value::Null),
-        't' => take(rest, "true").map(|()| Value::Bool),
-        'f' => take(rest, "false").map(|()| Value::Bool),
-        '"' => text(rest).map(|_| Value::Text),
+        't' => take(rest, "true").map(|()| Value::Bool(true)),
+        'f' => take(rest, "false").map(|()| Value::Bool(false)),
+        '"' => text(rest).map(Value::Text),
         '[' => items(rest, ["[", "]"], value).map(Value::List),
         '{' => {
             let object = items(rest, ["{", "}"], |rest| {
