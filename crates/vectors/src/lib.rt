@@ -1,8 +1,9 @@
 // Scatter and quadword stores from verdict 7 on: keys, stretches, verdict 12, room, memory, patch.
 ghost use mathlib.Core.Path.{_≡_};
-ghost use mathlib.Core.Bool.{true};
+ghost use mathlib.Core.Bool.{true, _&&_};
 ghost use mathlib.Core.List.{List};
 ghost use Prim.Native.Nat.{_+_, _*_, _<_, _≤_};
+ghost use lib.Dec.{eqb};
 ghost use lib.ListN.{length};
 ghost use Rattle.writes.specs.Elements.{Element};
 ghost use Rattle.window.specs.Window.{windowOk};
@@ -48,6 +49,17 @@ fn finish_one(
     }
 }
 
+// Whether the keys are those of doublewords, and one stretch. The size decides by a branch of its own, before the keys are looked at.
+fn is_one_of_eights(keys: &[u32], n: usize, size: usize) -> bool
+    requires { ⌜ n ≤ length (now keys) ⌝ }
+    ensures { λ r. ⌜ r ≡ (eqb size 8 && eqb (length (joined 8 (entries (now (keys .entry)) 0 n))) 1) ⌝ }
+{
+    if size != 8 {
+        return false;
+    }
+    stretches::is_one(keys, n, 8)
+}
+
 // From the keys on: stretches in order, verdict 12, room, memory, patch. One stretch of doublewords shares no byte.
 fn finish(
     keys: &[u32],
@@ -66,7 +78,7 @@ fn finish(
         → Ready base (length (now (memory .entry))) step size (now (stored .entry)) (now (keys .entry)) n es
         → StoredUnder strict base size (now (memory .entry)) (now (patch .entry)) es r (now (memory .exit)) (now (patch .exit))) ⌝ }
 {
-    if (size == 8) & stretches::is_one(keys, n, 8) {
+    if is_one_of_eights(keys, n, size) {
         return finish_one(keys, n, stored, base, memory, patch);
     }
     let mut stretches = [0u32; 64];

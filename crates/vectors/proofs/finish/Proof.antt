@@ -59,12 +59,12 @@ begun i = i .before .before .before .before .before .before
 
 told : (i : tie.Then1) → (begun i .args .size ≡ 8) × (length (joined 8 (entries (begun i .args .keys .now) 0 (begun i .args .n))) ≡ 1)
 told i =
-    let o = i .before .is-one in
-    let t = both (eqb (begun i .args .size) 8) (o .result) (i .if1 .taken) in
-    (eqb-true _ 8 (t .0), eqb-true _ 1 (sym (o .ensures) ∙ t .1))
+    let o = i .before .is-one-of-eights in
+    let t = both (eqb (begun i .args .size) 8) _ (sym (o .ensures) ∙ i .if1 .taken) in
+    (eqb-true _ 8 (t .0), eqb-true _ 1 (t .1))
 
-is-one-requires : tie.Need-is-one-requires
-is-one-requires c κs = (c .before .before .before .before .pre .1 .in-array, omega arith)
+is-one-of-eights-requires : tie.Need-is-one-of-eights-requires
+is-one-of-eights-requires c κs = c .before .before .before .before .pre .1 .in-array
 
 finish-one-requires : tie.Need-finish-one-requires
 finish-one-requires c κs =
@@ -134,14 +134,14 @@ module _ (i : tie.Then2) where
 lowest-requires : tie.Need-lowest-requires
 lowest-requires c κs = (start (o c) .pre .1 .in-array, due c .1)
 
-cast-t28 : tie.Need-cast-t28
-cast-t28 c = omega arith
+cast-t26 : tie.Need-cast-t26
+cast-t26 c = omega arith
 
 start-of-requires : tie.Need-start-of-requires
 start-of-requires c κs = search needs
 
-add-t31 : tie.Need-add-t31
-add-t31 c =
+add-t29 : tie.Need-add-t29
+add-t29 c =
     let l = c .before in
     let a = start (o (l .before)) in
     omega (
@@ -254,7 +254,7 @@ pub finish-spec : {M : Type 1} → statement M
 finish-spec =
     tie.close
     (tie.spec
-    is-one-requires
+    is-one-of-eights-requires
     finish-one-requires
     same-length
     same-length-2
@@ -264,9 +264,9 @@ finish-spec =
     slice-aggregate-overlaps
     overlaps-requires
     lowest-requires
-    cast-t28
+    cast-t26
     start-of-requires
-    add-t31
+    add-t29
     returns-2
     slice-aggregate-has-room
     mul-has-room
