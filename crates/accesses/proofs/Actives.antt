@@ -1,16 +1,16 @@
 -- The active ones among n elements. Assumes nothing.
-use mathlib.Core.Path.{_≡_, refl, sym, ap, _∙_, subst}
-use Prim.Native.Nat.{ℕ, zero, suc, _+_, _-_, _*_, _≤_, _<_}
-use mathlib.Core.List.{[], _∷_}
+use mathlib.Core.Path.{◌≡◌, refl, sym, ap, ◌∙◌, subst}
+use Prim.Native.Nat.{ℕ, zero, suc, ◌+◌, ◌-◌, ◌*◌, ◌≤◌, ◌<◌}
+use mathlib.Core.List.{[], ◌∷◌}
 use mathlib.Core.Bool.{Bool, true, false, true≢false, cond}
 use native.Mathlib.Nat.{zero-mul, suc-mul}
 use native.Mathlib.Omega.{arith}
 use lib.ListN.{length}
-use Rattle·endian.specs.LittleEndian.{Bytes}
-use Rattle·writes.specs.Elements.{Element, InWindow}
-use Rattle·endian.proofs.Order.{three}
-use Rattle·writes.proofs.Counting.{OfSize}
-use Rattle·elements.specs.Elements.{actives}
+use Rattle.endian.specs.LittleEndian.{Bytes}
+use Rattle.writes.specs.Elements.{Element, InWindow}
+use Rattle.endian.proofs.Order.{three}
+use Rattle.writes.proofs.Counting.{OfSize}
+use Rattle.elements.specs.Elements.{actives}
 
 module _ (on : ℕ → Bool) (el : ℕ → Element) where
   pub actives-on : (n e : ℕ) → on e ≡ true → actives on el (suc n) e ≡ el e ∷ actives on el n (suc e)
@@ -36,19 +36,19 @@ module _ (on : ℕ → Bool) (el : ℕ → Element) where
       (λ h. omega (arith, ap length (actives-on n e h), actives-length n (suc e)))
       (λ h. omega (arith, ap length (actives-off n e h), actives-length n (suc e)))
 
-  pub actives-sized : (k n e : ℕ) → ((i : ℕ) → i < e + n → (length (el i .bytes) ≡ k) × Bytes (el i .bytes)) → OfSize k (actives on el n e)
+  pub actives-sized : (k n e : ℕ) → ((i : ℕ) → i < e + n → (length (el i).bytes ≡ k) × Bytes (el i).bytes) → OfSize k (actives on el n e)
   unfolding actives
   actives-sized k zero e f = tt
   actives-sized k (suc n) e f =
       let r : OfSize k (actives on el n (suc e)) = actives-sized k n (suc e) (λ i h. f i (omega arith)) in
       let x = f e (omega arith) in
       either e
-      (λ h. subst (OfSize k) (sym (actives-on n e h)) (x .0, x .1, r))
+      (λ h. subst (OfSize k) (sym (actives-on n e h)) (x.0, x.1, r))
       (λ h. subst (OfSize k) (sym (actives-off n e h)) r)
 
   -- an active one of a list that lies in the window
   pub active-in : (W L n e : ℕ) → InWindow W L (actives on el n e) → (i : ℕ) → e ≤ i → i < e + n → on i ≡ true
-      → (W ≤ el i .address) × (el i .address + length (el i .bytes) ≤ W + L)
+      → (W ≤ (el i).address) × ((el i).address + length (el i).bytes ≤ W + L)
   unfolding actives
   active-in W L zero e f i a b h = absurd (omega arith)
   active-in W L (suc n) e f i a b h =
@@ -56,8 +56,8 @@ module _ (on : ℕ → Bool) (el : ℕ → Element) where
       (λ q.
       let g : InWindow W L (el e ∷ actives on el n (suc e)) = subst (InWindow W L) (actives-on n e q) f in
       three e i
-      (λ l. active-in W L n (suc e) (g .2) i (omega arith) (omega arith) h)
-      (λ l. subst (λ (z : ℕ). (W ≤ el z .address) × (el z .address + length (el z .bytes) ≤ W + L)) l (g .0, g .1))
+      (λ l. active-in W L n (suc e) g.2 i (omega arith) (omega arith) h)
+      (λ l. subst (λ (z : ℕ). (W ≤ (el z).address) × ((el z).address + length (el z).bytes ≤ W + L)) l (g.0, g.1))
       (λ l. absurd (omega arith)))
       (λ q.
       let g : InWindow W L (actives on el n (suc e)) = subst (InWindow W L) (actives-off n e q) f in
@@ -67,10 +67,10 @@ module _ (on : ℕ → Bool) (el : ℕ → Element) where
       (λ l. absurd (omega arith)))
 
   -- none from e on
-  pub none-left : (n e : ℕ) → ((j : ℕ) → e ≤ j → on j ≡ false) → actives on el n e ≡ []
+  pub none_left : (n e : ℕ) → ((j : ℕ) → e ≤ j → on j ≡ false) → actives on el n e ≡ []
   unfolding actives
-  none-left zero e h = refl
-  none-left (suc n) e h = actives-off n e (h e (omega arith)) ∙ none-left n (suc e) (λ j k. h j (omega arith))
+  none_left zero e h = refl
+  none_left (suc n) e h = actives-off n e (h e (omega arith)) ∙ none_left n (suc e) (λ j k. h j (omega arith))
 
   -- off up to e + d, and then n more
   pub skipped : (d n e : ℕ) → ((i : ℕ) → e ≤ i → i < e + d → on i ≡ false) → actives on el (d + n) e ≡ actives on el n (e + d)

@@ -1,20 +1,20 @@
 -- Elements whose addresses lie at least as far from each other as they are long: no two share a byte. Assumes nothing.
-use mathlib.Core.Path.{_≡_, refl, sym, ap, _∙_, subst}
+use mathlib.Core.Path.{◌≡◌, refl, sym, ap, ◌∙◌, subst}
 use mathlib.Core.Bool.{Bool, true, false, cond}
-use mathlib.Core.List.{List, [], _∷_}
-use mathlib.Core.Logic.{_⊎_, inl, inr, ⊎-elim}
+use mathlib.Core.List.{List, [], ◌∷◌}
+use mathlib.Core.Logic.{◌⊎◌, inl, inr, ⊎_elim}
 use mathlib.Core.Option.{none}
-use Prim.Native.Nat.{ℕ, zero, suc, _+_, _-_, _*_, _/_, _%_, _^_, _≤_, _<_}
-use native.Mathlib.Nat.{suc-mul, mul-le-mul, mul-le-mul-right, mul-assoc}
+use Prim.Native.Nat.{ℕ, zero, suc, ◌+◌, ◌-◌, ◌*◌, ◌/◌, ◌%◌, ◌^◌, ◌≤◌, ◌<◌}
+use native.Mathlib.Nat.{suc-mul, mul-le-mul, mul-le-mul_right, mul_assoc}
 use native.Mathlib.Omega.{arith}
 use lib.ListN.{length, drop, length-take}
-use Rattle·endian.proofs.Order.{two}
-use Rattle·writes.specs.Elements.{Element, first_overlap}
-use Rattle·writes.proofs.Sharing.{Apart, ApartFrom, EachApart, apart-no-overlap}
-use Rattle·elements.specs.Machine.{register}
-use Rattle·elements.specs.Elements.{actives}
-use Rattle·elements.specs.Accesses.{StridedSound, between, strided_address, strided_element, strided_elements}
-use Rattle·elements.specs.declared.StridedAccess.{StridedAccess}
+use Rattle.endian.proofs.Order.{two}
+use Rattle.writes.specs.Elements.{Element, first_overlap}
+use Rattle.writes.proofs.Sharing.{Apart, ApartFrom, EachApart, apart-no-overlap}
+use Rattle.elements.specs.Machine.{register}
+use Rattle.elements.specs.Elements.{actives}
+use Rattle.elements.specs.Accesses.{StridedSound, between, strided_address, strided_element, strided_elements}
+use Rattle.elements.specs.declared.StridedAccess.{StridedAccess}
 
 -- ---- two addresses by their numbers
 
@@ -22,7 +22,7 @@ use Rattle·elements.specs.declared.StridedAccess.{StridedAccess}
 pub gap-apart : (start gap size i j : ℕ) → size ≤ gap → i < j → (j + 1) * gap ≤ 2 ^ 64
     → ((start + i * gap) % 2 ^ 64 + size ≤ (start + j * gap) % 2 ^ 64) ⊎ ((start + j * gap) % 2 ^ 64 + size ≤ (start + i * gap) % 2 ^ 64)
 gap-apart start gap size i j w h top =
-    let f : suc i * gap ≤ j * gap = mul-le-mul-right gap h in
+    let f : suc i * gap ≤ j * gap = mul-le-mul_right gap h in
     around (start + i * gap) (j * gap - i * gap) (start + j * gap) (omega (arith, suc-mul i gap)) (omega (arith, suc-mul i gap))
     (omega (arith, suc-mul j gap, suc-mul i gap))
   where
@@ -32,10 +32,10 @@ gap-apart start gap size i j w h top =
 -- ---- the active ones
 
 module _ (on : ℕ → Bool) (el : ℕ → Element) where
-  apart-from : (x : Element) (n e : ℕ) → ((j : ℕ) → e ≤ j → j < e + n → Apart x (el j)) → ApartFrom x (actives on el n e)
+  apart_from : (x : Element) (n e : ℕ) → ((j : ℕ) → e ≤ j → j < e + n → Apart x (el j)) → ApartFrom x (actives on el n e)
   unfolding actives
-  apart-from x zero e f = tt
-  apart-from x (suc n) e f = go (on e) (apart-from x n (suc e) (λ j a b. f j (omega arith) (omega arith)))
+  apart_from x zero e f = tt
+  apart_from x (suc n) e f = go (on e) (apart_from x n (suc e) (λ j a b. f j (omega arith) (omega arith)))
     where
       go : (b : Bool) → ApartFrom x (actives on el n (suc e))
           → ApartFrom x (cond b (el e ∷ actives on el n (suc e)) (actives on el n (suc e)))
@@ -46,7 +46,7 @@ module _ (on : ℕ → Bool) (el : ℕ → Element) where
   unfolding actives
   actives-apart zero e f = tt
   actives-apart (suc n) e f =
-      go (on e) (apart-from (el e) n (suc e) (λ j a b. f e j (omega arith) (omega arith) (omega arith)))
+      go (on e) (apart_from (el e) n (suc e) (λ j a b. f e j (omega arith) (omega arith) (omega arith)))
       (actives-apart n (suc e) (λ i j a b d. f i j (omega arith) b (omega arith)))
     where
       go : (b : Bool) → ApartFrom (el e) (actives on el n (suc e)) → EachApart (actives on el n (suc e))
@@ -57,28 +57,28 @@ module _ (on : ℕ → Bool) (el : ℕ → Element) where
 -- ---- strided stores
 
 module _ (s : StridedAccess) (vb : ℕ) (o : StridedSound s vb) (z : List ℕ) where
-  short : (i : ℕ) → length (strided_element s vb z i .bytes) ≤ s .size
+  short : (i : ℕ) → length (strided_element s vb z i).bytes ≤ s.size
   unfolding strided_element
-  short i = omega (arith, length-take (s .size) (drop (i % s .per * s .gap) (register vb z (s .first + i / s .per * s .stride))))
+  short i = omega (arith, length-take s.size (drop (i % s.per * s.gap) (register vb z (s.first + i / s.per * s.stride))))
 
   -- the last ends within 1,024 bytes of the first's start
-  far : (j : ℕ) → j < s .nreg * s .per → (j + 1) * s .gap ≤ 1024
+  far : (j : ℕ) → j < s.nreg * s.per → (j + 1) * s.gap ≤ 1024
   far j h =
-      let h′ : j + 1 ≤ s .nreg * s .per = omega arith in
-      let k : s .per * s .gap ≤ 256 = omega (arith, o .whole, o .high) in
-      let b : s .nreg * (s .per * s .gap) ≤ 4 * 256 = mul-le-mul (o .nreg) k in
-      omega (arith, mul-le-mul-right (s .gap) h′, b, mul-assoc (s .nreg) (s .per) (s .gap))
+      let h' : j + 1 ≤ s.nreg * s.per = omega arith in
+      let k : s.per * s.gap ≤ 256 = omega (arith, o.whole, o.high) in
+      let b : s.nreg * (s.per * s.gap) ≤ 4 * 256 = mul-le-mul o.nreg k in
+      omega (arith, mul-le-mul_right s.gap h', b, mul_assoc s.nreg s.per s.gap)
 
-  strided-two : (i j : ℕ) → i < j → j < s .nreg * s .per → Apart (strided_element s vb z i) (strided_element s vb z j)
+  strided-two : (i j : ℕ) → i < j → j < s.nreg * s.per → Apart (strided_element s vb z i) (strided_element s vb z j)
   unfolding strided_element strided_address
   strided-two i j h k =
-      ⊎-elim (λ l. inl (omega (arith, l, short i))) (λ l. inr (omega (arith, l, short j)))
-      (gap-apart (s .start) (s .gap) (s .size) i j (o .size) h (omega (arith, far j k)))
+      ⊎_elim (λ l. inl (omega (arith, l, short i))) (λ l. inr (omega (arith, l, short j)))
+      (gap-apart s.start s.gap s.size i j o.size h (omega (arith, far j k)))
 
   pub strided-apart : EachApart (strided_elements s vb z)
   unfolding strided_elements
   strided-apart =
-      actives-apart (between s) (strided_element s vb z) (s .nreg * s .per) 0 (λ i j a b c. strided-two i j b (omega arith))
+      actives-apart (between s) (strided_element s vb z) (s.nreg * s.per) 0 (λ i j a b c. strided-two i j b (omega arith))
 
   pub strided-no-overlap : first_overlap (strided_elements s vb z) ≡ none
   strided-no-overlap = apart-no-overlap (strided_elements s vb z) strided-apart

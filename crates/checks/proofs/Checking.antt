@@ -1,61 +1,61 @@
 -- What checking answers: a refusal, or the store's access with its elements. Assumes nothing.
-use mathlib.Core.Path.{_≡_, refl, sym, ap, _∙_, subst}
+use mathlib.Core.Path.{◌≡◌, refl, sym, ap, ◌∙◌, subst}
 use mathlib.Core.Bool.{Bool, true, false, not, cond}
 use mathlib.Core.List.{List}
-use Prim.Native.Nat.{ℕ, _%_, _≤_}
+use Prim.Native.Nat.{ℕ, ◌%◌, ◌≤◌}
 use native.Mathlib.Omega.{arith}
 use borrow.Author.Tests.{not-false}
-use Rattle·encoding.specs.Decoding.{decode_of}
-use Rattle·encoding.specs.Encoding.{class_for, feature_of, refused}
-use Rattle·encoding.specs.declared.Decoded.the-variants as D
-use Rattle·encoding.specs.declared.Feature.{Feature}
-use Rattle·encoding.specs.declared.Feature.the-variants.{SME2}
-use Rattle·encoding.specs.declared.Store.{Store}
-use Rattle·encoding.specs.declared.Store.the-variants as S
-use Rattle·encoding.proofs.Statements.{known-accepted}
-use Rattle·endian.specs.LittleEndian.{Bytes}
-use Rattle·writes.specs.Elements.{Element}
-use Rattle·window.specs.Window.{window_ok}
-use Rattle·elements.specs.Machine.{Machine}
-use Rattle·elements.specs.Stores.{size_of}
-use Rattle·elements.specs.Elements.{elements}
-use Rattle·elements.specs.Accesses.{VectorSound, StridedSound, strided_elements}
-use Rattle·elements.specs.declared.VectorAccess.{VectorAccess}
-use Rattle·elements.specs.declared.StridedAccess.{StridedAccess}
-use Rattle·elements.proofs.Shapes.{scatter-in, strided-in, quadword-in}
-use Rattle·accesses.proofs.Listing.{scatter-elements, strided-elements, quadword-elements}
-use Rattle·accesses.proofs.Soundness.{scatter-sound, strided-sound, quadword-sound}
-use Rattle·verdicts.specs.Verdicts.{elements_for, flag_on, illegal, on_stack, stack, verdict_of, refusal_number}
-use Rattle·checks·specs.specs.Checking.{Sound, access_for, vectors_in, elements_in, AccessSound, checked_for, concluded, Passed, CheckedAs}
-use Rattle·verdicts.specs.declared.Flags.{Flags}
-use Rattle·verdicts.specs.declared.Refusal.{Refusal}
-use Rattle·verdicts.specs.declared.Refusal.the-variants.{Undefined, Illegal, Stack}
-use Rattle·verdicts.specs.declared.Verdict.{Verdict}
-use Rattle·verdicts.specs.declared.Verdict.the-variants as Ver
-use Rattle·checks·specs.specs.declared.Checked.{Checked}
-use Rattle·checks·specs.specs.declared.Checked.the-variants.{Refused, Vector, Strided}
-use Rattle·checks·proofs.proofs.Order.{verdict_for}
+use Rattle.encoding.specs.Decoding.{decode_of}
+use Rattle.encoding.specs.Encoding.{class_for, feature_of, refused}
+use Rattle.encoding.specs.declared.Decoded.TheVariants as D
+use Rattle.encoding.specs.declared.Feature.{Feature}
+use Rattle.encoding.specs.declared.Feature.TheVariants.{SME2}
+use Rattle.encoding.specs.declared.Store.{Store}
+use Rattle.encoding.specs.declared.Store.TheVariants as S
+use Rattle.encoding.proofs.Statements.{known-accepted}
+use Rattle.endian.specs.LittleEndian.{Bytes}
+use Rattle.writes.specs.Elements.{Element}
+use Rattle.window.specs.Window.{window_ok}
+use Rattle.elements.specs.Machine.{Machine}
+use Rattle.elements.specs.Stores.{size_of}
+use Rattle.elements.specs.Elements.{elements}
+use Rattle.elements.specs.Accesses.{VectorSound, StridedSound, strided_elements}
+use Rattle.elements.specs.declared.VectorAccess.{VectorAccess}
+use Rattle.elements.specs.declared.StridedAccess.{StridedAccess}
+use Rattle.elements.proofs.Shapes.{scatter-in, strided-in, quadword-in}
+use Rattle.accesses.proofs.Listing.{scatter-elements, strided-elements, quadword-elements}
+use Rattle.accesses.proofs.Soundness.{scatter-sound, strided-sound, quadword-sound}
+use Rattle.verdicts.specs.Verdicts.{elements_for, flag_on, illegal, on_stack, stack, verdict_of, refusal_number}
+use Rattle.checks.specs.Checking.{Sound, access_for, vectors_in, elements_in, AccessSound, checked_for, concluded, Passed, CheckedAs}
+use Rattle.verdicts.specs.declared.Flags.{Flags}
+use Rattle.verdicts.specs.declared.Refusal.{Refusal}
+use Rattle.verdicts.specs.declared.Refusal.TheVariants.{Undefined, Illegal, Stack}
+use Rattle.verdicts.specs.declared.Verdict.{Verdict}
+use Rattle.verdicts.specs.declared.Verdict.TheVariants as Ver
+use Rattle.checks.specs.declared.Checked.{Checked}
+use Rattle.checks.specs.declared.Checked.TheVariants.{Refused, Vector, Strided}
+use Rattle.checks.proofs.Order.{verdict_for}
 
 -- ---- a store's access is sound, and has its elements
 
 pub record AccessTo (m : Machine) (s : Store) (c : Checked) : Type 0 where
-  pub sound : AccessSound c (m .vb)
-  pub listed : elements m s ≡ elements_in c (m .vb) (m .z) (m .p)
+  pub sound : AccessSound c m.vb
+  pub listed : elements m s ≡ elements_in c m.vb m.z m.p
 
-pub access-to : (m : Machine) → Sound (m .vb) (m .z) (m .p) → Bytes (m .z) → (s : Store) → refused s ≡ false → AccessTo m s (access_for m s)
+pub access-to : (m : Machine) → Sound m.vb m.z m.p → Bytes m.z → (s : Store) → refused s ≡ false → AccessTo m s (access_for m s)
 access-to m o b (S.Scatter f) a =
     let i = scatter-in f a in
-    record { sound = scatter-sound m (o .low) (o .high) (o .sixteen) f i; listed = scatter-elements m b f i }
+    record { sound = scatter-sound m o.low o.high o.sixteen f i; listed = scatter-elements m b f i }
 access-to m o b (S.Strided f) a =
     let i = strided-in f a in
-    record { sound = strided-sound m (o .low) (o .high) (o .sixteen) f i; listed = strided-elements m f i (o .sixteen) (o .low) }
+    record { sound = strided-sound m o.low o.high o.sixteen f i; listed = strided-elements m f i o.sixteen o.low }
 access-to m o b (S.Quadword f) a =
     let i = quadword-in f a in
-    record { sound = quadword-sound m (o .low) (o .high) (o .sixteen) f i; listed = quadword-elements m f i }
+    record { sound = quadword-sound m o.low o.high o.sixteen f i; listed = quadword-elements m f i }
 
 -- soundness needs VB alone
-pub access-sound : (m : Machine) → 16 ≤ m .vb → m .vb ≤ 256 → m .vb % 16 ≡ 0 → (s : Store) → refused s ≡ false
-    → AccessSound (access_for m s) (m .vb)
+pub access-sound : (m : Machine) → 16 ≤ m.vb → m.vb ≤ 256 → m.vb % 16 ≡ 0 → (s : Store) → refused s ≡ false
+    → AccessSound (access_for m s) m.vb
 access-sound m l h d (S.Scatter f) a = scatter-sound m l h d f (scatter-in f a)
 access-sound m l h d (S.Strided f) a = strided-sound m l h d f (strided-in f a)
 access-sound m l h d (S.Quadword f) a = quadword-sound m l h d f (quadword-in f a)
@@ -63,8 +63,8 @@ access-sound m l h d (S.Quadword f) a = quadword-sound m l h d f (quadword-in f 
 -- ---- verdicts 4 to 6 in their order
 
 -- a strided store that isn't illegal has streaming on
-pub legal-streams : (f : Flags) (x : Feature) (b : Bool) → b ≡ illegal f x → b ≡ false → x ≡ SME2 → f .streaming ≡ true
-legal-streams f x b e t q = not-false (f .streaming) (sym (ap (illegal f) q) ∙ sym e ∙ t)
+pub legal-streams : (f : Flags) (x : Feature) (b : Bool) → b ≡ illegal f x → b ≡ false → x ≡ SME2 → f.streaming ≡ true
+legal-streams f x b e t q = not-false f.streaming (sym (ap (illegal f) q) ∙ sym e ∙ t)
 
 module _ (f : Flags) (m : Machine) (s : Store) (x : Feature) (e : x ≡ feature_of s) (a : Bool) (p : a ≡ not (flag_on f x)) where
   -- by the tests that the code makes
@@ -75,19 +75,19 @@ module _ (f : Flags) (m : Machine) (s : Store) (x : Feature) (e : x ≡ feature_
   off = ap (λ (y : Feature). not (flag_on f y)) (sym e) ∙ sym p
 
   pub for-off : a ≡ true → Refused Undefined ≡ checked_for f m s
-  for-off t = sym (ap (λ (z : Bool). by z (illegal f (feature_of s)) (stack f (m .sp) (on_stack s) (elements m s))) (off ∙ t))
+  for-off t = sym (ap (λ (z : Bool). by z (illegal f (feature_of s)) (stack f m.sp (on_stack s) (elements m s))) (off ∙ t))
 
   module _ (t : a ≡ false) (b : Bool) (q : b ≡ illegal f x) where
     is-illegal : illegal f (feature_of s) ≡ b
     is-illegal = ap (illegal f) (sym e) ∙ sym q
 
     pub for-illegal : b ≡ true → Refused Illegal ≡ checked_for f m s
-    for-illegal u = sym (λ i. by ((off ∙ t) i) ((is-illegal ∙ u) i) (stack f (m .sp) (on_stack s) (elements m s)))
+    for-illegal u = sym (λ i. by ((off ∙ t) i) ((is-illegal ∙ u) i) (stack f m.sp (on_stack s) (elements m s)))
 
-    module _ (u : b ≡ false) (o : Bool) (es : List Element) (c : Bool) (r : c ≡ stack f (m .sp) o es) (n : o ≡ on_stack s)
+    module _ (u : b ≡ false) (o : Bool) (es : List Element) (c : Bool) (r : c ≡ stack f m.sp o es) (n : o ≡ on_stack s)
         (l : elements m s ≡ es) where
-      is-stack : stack f (m .sp) (on_stack s) (elements m s) ≡ c
-      is-stack = (λ i. stack f (m .sp) (sym n i) (l i)) ∙ sym r
+      is-stack : stack f m.sp (on_stack s) (elements m s) ≡ c
+      is-stack = (λ i. stack f m.sp (sym n i) (l i)) ∙ sym r
 
       pub for-stack : c ≡ true → Refused Stack ≡ checked_for f m s
       for-stack w = sym (λ i. by ((off ∙ t) i) ((is-illegal ∙ u) i) ((is-stack ∙ w) i))
@@ -98,36 +98,36 @@ module _ (f : Flags) (m : Machine) (s : Store) (x : Feature) (e : x ≡ feature_
 -- ---- what checking answers
 
 module _ (f : Flags) (m : Machine) (W L word : ℕ) where
-  pub refused-as : (r : Refusal) → refusal_number r ≤ 6 → ((room : ℕ) → verdict_of f m W L word room ≡ Ver.Refused r)
+  pub refused_as : (r : Refusal) → refusal_number r ≤ 6 → ((room : ℕ) → verdict_of f m W L word room ≡ Ver.Refused r)
       → CheckedAs f m W L word (Refused r)
   unfolding CheckedAs
-  refused-as r n h = (n, h)
+  refused_as r n h = (n, h)
 
   -- and back
   pub refused-told : (c : Checked) (r : Refusal) → CheckedAs f m W L word c → c ≡ Refused r
       → (room : ℕ) → verdict_of f m W L word room ≡ Ver.Refused r
   unfolding CheckedAs
-  refused-told c r h q = subst (CheckedAs f m W L word) q h .1
+  refused-told c r h q = (subst (CheckedAs f m W L word) q h).1
 
   pub vector-told : (c : Checked) (v : VectorAccess) → CheckedAs f m W L word c → c ≡ Vector v
-      → VectorSound v (m .vb) × Passed f m W L word (vectors_in v (m .vb) (m .z) (m .p)) (v .size)
+      → VectorSound v m.vb × Passed f m W L word (vectors_in v m.vb m.z m.p) v.size
   unfolding CheckedAs
   vector-told c v h q = subst (CheckedAs f m W L word) q h
 
   pub strided-told : (c : Checked) (s : StridedAccess) → CheckedAs f m W L word c → c ≡ Strided s
-      → StridedSound s (m .vb) × Passed f m W L word (strided_elements s (m .vb) (m .z)) (s .size)
+      → StridedSound s m.vb × Passed f m W L word (strided_elements s m.vb m.z) s.size
   unfolding CheckedAs
   strided-told c s h q = subst (CheckedAs f m W L word) q h
 
   pub undefined-as : ((room : ℕ) → verdict_of f m W L word room ≡ verdict_for f m W L room (decode_of word)) → D.Undefined ≡ decode_of word
       → CheckedAs f m W L word (Refused Undefined)
-  undefined-as past d = refused-as Undefined (omega arith) (λ room. past room ∙ ap (verdict_for f m W L room) (sym d))
+  undefined-as past d = refused_as Undefined (omega arith) (λ room. past room ∙ ap (verdict_for f m W L room) (sym d))
 
-  module _ (bytes : Bytes (m .z)) (o : Sound (m .vb) (m .z) (m .p)) (w : window_ok W L ≡ true)
+  module _ (bytes : Bytes m.z) (o : Sound m.vb m.z m.p) (w : window_ok W L ≡ true)
       (past : (room : ℕ) → verdict_of f m W L word room ≡ verdict_for f m W L room (decode_of word)) where
     -- none of 4 to 6 is due of s
     abbrev Concludes : Store → Type 0
-    Concludes s = (room : ℕ) → verdict_of f m W L word room ≡ concluded (f .strict) W L room (size_of (class_for s)) (elements m s)
+    Concludes s = (room : ℕ) → verdict_of f m W L word room ≡ concluded f.strict W L room (size_of (class_for s)) (elements m s)
 
     passed : (s : Store) → D.Known s ≡ decode_of word → (es : List Element) → elements m s ≡ es → Concludes s
         → Passed f m W L word es (size_of (class_for s))
@@ -136,36 +136,36 @@ module _ (f : Flags) (m : Machine) (W L word : ℕ) where
           registers = o;
           window = w;
           listed = sym (ap (elements_for m) d) ∙ q;
-          verdict = λ room. h room ∙ ap (concluded (f .strict) W L room (size_of (class_for s))) q;
+          verdict = λ room. h room ∙ ap (concluded f.strict W L room (size_of (class_for s))) q;
         }
 
     access-as : (s : Store) → D.Known s ≡ decode_of word → refused s ≡ false → Concludes s → CheckedAs f m W L word (access_for m s)
     unfolding CheckedAs
     access-as (S.Scatter g) d a h =
-        let t = access-to m o bytes (S.Scatter g) a in (t .sound, passed (S.Scatter g) d _ (t .listed) h)
+        let t = access-to m o bytes (S.Scatter g) a in (t.sound, passed (S.Scatter g) d _ t.listed h)
     access-as (S.Strided g) d a h =
-        let t = access-to m o bytes (S.Strided g) a in (t .sound, passed (S.Strided g) d _ (t .listed) h)
+        let t = access-to m o bytes (S.Strided g) a in (t.sound, passed (S.Strided g) d _ t.listed h)
     access-as (S.Quadword g) d a h =
-        let t = access-to m o bytes (S.Quadword g) a in (t .sound, passed (S.Quadword g) d _ (t .listed) h)
+        let t = access-to m o bytes (S.Quadword g) a in (t.sound, passed (S.Quadword g) d _ t.listed h)
 
-    pub known-as : (s : Store) → D.Known s ≡ decode_of word → CheckedAs f m W L word (checked_for f m s)
-    known-as s d = go (not (flag_on f (feature_of s))) refl (illegal f (feature_of s)) refl (stack f (m .sp) (on_stack s) (elements m s)) refl
+    pub known_as : (s : Store) → D.Known s ≡ decode_of word → CheckedAs f m W L word (checked_for f m s)
+    known_as s d = go (not (flag_on f (feature_of s))) refl (illegal f (feature_of s)) refl (stack f m.sp (on_stack s) (elements m s)) refl
       where
         by : ℕ → Bool → Bool → Bool → Verdict
         by room a b c =
             cond a (Ver.Refused Undefined)
             (cond b (Ver.Refused Illegal)
-            (cond c (Ver.Refused Stack) (concluded (f .strict) W L room (size_of (class_for s)) (elements m s))))
+            (cond c (Ver.Refused Stack) (concluded f.strict W L room (size_of (class_for s)) (elements m s))))
 
         told : {a b c : Bool} → not (flag_on f (feature_of s)) ≡ a → illegal f (feature_of s) ≡ b
-            → stack f (m .sp) (on_stack s) (elements m s) ≡ c
+            → stack f m.sp (on_stack s) (elements m s) ≡ c
             → (room : ℕ) → verdict_of f m W L word room ≡ by room a b c
         told p q r room = past room ∙ ap (verdict_for f m W L room) (sym d) ∙ (λ i. by room (p i) (q i) (r i))
 
         go : (a : Bool) → not (flag_on f (feature_of s)) ≡ a → (b : Bool) → illegal f (feature_of s) ≡ b
-            → (c : Bool) → stack f (m .sp) (on_stack s) (elements m s) ≡ c
+            → (c : Bool) → stack f m.sp (on_stack s) (elements m s) ≡ c
             → CheckedAs f m W L word (cond a (Refused Undefined) (cond b (Refused Illegal) (cond c (Refused Stack) (access_for m s))))
-        go true p b q c r = refused-as Undefined (omega arith) (told p q r)
-        go false p true q c r = refused-as Illegal (omega arith) (told p q r)
-        go false p false q true r = refused-as Stack (omega arith) (told p q r)
+        go true p b q c r = refused_as Undefined (omega arith) (told p q r)
+        go false p true q c r = refused_as Illegal (omega arith) (told p q r)
+        go false p false q true r = refused_as Stack (omega arith) (told p q r)
         go false p false q false r = access-as s d (known-accepted word s (sym d)) (told p q r)

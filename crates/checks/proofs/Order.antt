@@ -1,30 +1,30 @@
 -- The table's lines in their order: what is decided once the first of them don't hold. Assumes nothing.
-use mathlib.Core.Path.{_≡_, refl, sym, ap, _∙_}
-use mathlib.Core.Bool.{Bool, true, false, not, cond, _&&_, _||_}
-use mathlib.Core.List.{List, [], _∷_}
-use mathlib.Core.Logic.{⊎-elim}
-use Prim.Native.Nat.{ℕ, _*_, _%_, _^_, _≤_}
+use mathlib.Core.Path.{◌≡◌, refl, sym, ap, ◌∙◌}
+use mathlib.Core.Bool.{Bool, true, false, not, cond, ◌&&◌, ◌||◌}
+use mathlib.Core.List.{List, [], ◌∷◌}
+use mathlib.Core.Logic.{⊎_elim}
+use Prim.Native.Nat.{ℕ, ◌*◌, ◌%◌, ◌^◌, ◌≤◌}
 use native.Mathlib.Omega.{arith}
 use lib.Dec.{eqb, leb}
 use lib.ListN.{length}
 use borrow.Author.Tests.{not-false, eqb-true, leb-true}
-use Rattle·encoding.specs.Decoding.{decode_of}
-use Rattle·encoding.specs.declared.Decoded.{Decoded}
-use Rattle·encoding.proofs.Statements.{one-of}
-use Rattle·writes.specs.Elements.{Element}
-use Rattle·window.specs.Window.{window_ok}
-use Rattle·endian.proofs.Order.{absurdly, told}
-use Rattle·elements.specs.Machine.{Machine}
-use Rattle·elements.specs.Counter.{highest}
-use Rattle·elements.proofs.Highest.{four-times, highest-power}
-use Rattle·verdicts.specs.Verdicts.{elements_for, size_for, one_of_five, length_ok, registers_ok, undefined, illegal_for, stack, stack_for}
-use Rattle·verdicts.specs.Verdicts.{decided}
-use Rattle·verdicts.specs.Verdicts.{verdict_of}
-use Rattle·checks·specs.specs.Checking.{Sound, concluded}
-use Rattle·verdicts.specs.declared.Flags.{Flags}
-use Rattle·verdicts.specs.declared.Refusal.the-variants.{Length, Registers, Window, Undefined, Illegal, Stack}
-use Rattle·verdicts.specs.declared.Verdict.{Verdict}
-use Rattle·verdicts.specs.declared.Verdict.the-variants.{Refused}
+use Rattle.encoding.specs.Decoding.{decode_of}
+use Rattle.encoding.specs.declared.Decoded.{Decoded}
+use Rattle.encoding.proofs.Statements.{one_of}
+use Rattle.writes.specs.Elements.{Element}
+use Rattle.window.specs.Window.{window_ok}
+use Rattle.endian.proofs.Order.{absurdly, told}
+use Rattle.elements.specs.Machine.{Machine}
+use Rattle.elements.specs.Counter.{highest}
+use Rattle.elements.proofs.Highest.{four-times, highest-power}
+use Rattle.verdicts.specs.Verdicts.{elements_for, size_for, one_of_five, length_ok, registers_ok, undefined, illegal_for, stack, stack_for}
+use Rattle.verdicts.specs.Verdicts.{decided}
+use Rattle.verdicts.specs.Verdicts.{verdict_of}
+use Rattle.checks.specs.Checking.{Sound, concluded}
+use Rattle.verdicts.specs.declared.Flags.{Flags}
+use Rattle.verdicts.specs.declared.Refusal.TheVariants.{Length, Registers, Window, Undefined, Illegal, Stack}
+use Rattle.verdicts.specs.declared.Verdict.{Verdict}
+use Rattle.verdicts.specs.declared.Verdict.TheVariants.{Refused}
 
 -- ---- VB
 
@@ -39,12 +39,12 @@ pub record Vb (streaming : Bool) (vb : ℕ) : Type 0 where
 five-sound : (streaming : Bool) (vb : ℕ) → one_of_five vb ≡ true → Vb streaming vb
 unfolding one_of_five
 five-sound streaming vb e =
-    ⊎-elim (λ h. of 4 (eqb-true vb 16 h) (omega arith) (omega arith) refl)
-    (⊎-elim (λ h. of 5 (eqb-true vb 32 h) (omega arith) (omega arith) refl)
-    (⊎-elim (λ h. of 6 (eqb-true vb 64 h) (omega arith) (omega arith) refl)
-    (⊎-elim (λ h. of 7 (eqb-true vb 128 h) (omega arith) (omega arith) refl)
+    ⊎_elim (λ h. of 4 (eqb-true vb 16 h) (omega arith) (omega arith) refl)
+    (⊎_elim (λ h. of 5 (eqb-true vb 32 h) (omega arith) (omega arith) refl)
+    (⊎_elim (λ h. of 6 (eqb-true vb 64 h) (omega arith) (omega arith) refl)
+    (⊎_elim (λ h. of 7 (eqb-true vb 128 h) (omega arith) (omega arith) refl)
     (λ h. of 8 (eqb-true vb 256 h) (omega arith) (omega arith) refl))))
-    (one-of (eqb vb 16) (eqb vb 32) (eqb vb 64) (eqb vb 128) (eqb vb 256) e)
+    (one_of (eqb vb 16) (eqb vb 32) (eqb vb 64) (eqb vb 128) (eqb vb 256) e)
   where
     of : (k : ℕ) → vb ≡ 2 ^ k → 16 ≤ 2 ^ k → 2 ^ k ≤ 256 → 2 ^ k % 16 ≡ 0 → Vb streaming vb
     of k q a b d =
@@ -56,7 +56,7 @@ five-sound streaming vb e =
         }
 
 pub five-power : (vb : ℕ) → one_of_five vb ≡ true → 4 * vb ≡ 2 ^ highest vb
-five-power vb e = five-sound true vb e .power refl
+five-power vb e = (five-sound true vb e).power refl
 
 pub length-sound : (early streaming : Bool) (vb : ℕ) → length_ok early streaming vb ≡ true → Vb streaming vb
 unfolding length_ok
@@ -76,9 +76,9 @@ length-sound false streaming vb e = five-sound streaming vb e
 -- what doesn't refuse a store with an active element refuses none
 pub never-stack : (f : Flags) (sp : ℕ) (s b : Bool) (x : Element) → b ≡ stack f sp s (x ∷ []) → b ≡ false → (es : List Element)
     → false ≡ stack f sp s es
-never-stack f sp s b x e q [] = go s (f .«sp_check») (not (eqb (sp % 16) 0)) (sym e ∙ q)
+never-stack f sp s b x e q [] = go s f.sp_check (not (eqb (sp % 16) 0)) (sym e ∙ q)
   where
-    go : (s c d : Bool) → (s && c && d && true) ≡ false → false ≡ (s && c && d && f .«sp_check_none_active»)
+    go : (s c d : Bool) → (s && c && d && true) ≡ false → false ≡ (s && c && d && f.sp_check_none_active)
     go false c d k = refl
     go true false d k = refl
     go true true false k = refl
@@ -91,7 +91,7 @@ abbrev pub verdict_for : Flags → Machine → ℕ → ℕ → ℕ → Decoded �
 verdict_for f m W L room d =
     cond (undefined f d) (Refused Undefined)
     (cond (illegal_for f d) (Refused Illegal)
-    (cond (stack_for f m d) (Refused Stack) (concluded (f .strict) W L room (size_for d) (elements_for m d))))
+    (cond (stack_for f m d) (Refused Stack) (concluded f.strict W L room (size_for d) (elements_for m d))))
 
 -- ---- from 1 on
 
@@ -104,14 +104,14 @@ module _ (f : Flags) (m : Machine) (W L word : ℕ) where
 
   -- the test of both buffers
   abbrev misfit : Bool
-  misfit = not (eqb (length (m .z)) (32 * m .vb)) || not (eqb (length (m .p)) (2 * m .vb))
+  misfit = not (eqb (length m.z) (32 * m.vb)) || not (eqb (length m.p) (2 * m.vb))
 
-  pub of-length : (b : Bool) → b ≡ length_ok (f .early) (f .streaming) (m .vb) → not b ≡ true → (room : ℕ)
+  pub of_length : (b : Bool) → b ≡ length_ok f.early f.streaming m.vb → not b ≡ true → (room : ℕ)
       → verdict_of f m W L word room ≡ Refused Length
   unfolding verdict_of decided
-  of-length b e t room = ap (λ (y : Bool). cond y (Refused Length) (from-2 room)) (ap not (sym e) ∙ t)
+  of_length b e t room = ap (λ (y : Bool). cond y (Refused Length) (from-2 room)) (ap not (sym e) ∙ t)
 
-  module _ (b : Bool) (e : b ≡ length_ok (f .early) (f .streaming) (m .vb)) (t : not b ≡ false) where
+  module _ (b : Bool) (e : b ≡ length_ok f.early f.streaming m.vb) (t : not b ≡ false) where
     past-1 : (room : ℕ) → verdict_of f m W L word room ≡ from-2 room
     unfolding verdict_of decided
     past-1 room = ap (λ (y : Bool). cond y (Refused Length) (from-2 room)) (ap not (sym e) ∙ t)
@@ -122,22 +122,22 @@ module _ (f : Flags) (m : Machine) (W L word : ℕ) where
 
     registers-by : (c : Bool) → misfit ≡ c → not (registers_ok m) ≡ c
     unfolding registers_ok
-    registers-by c q = either (eqb (length (m .z)) (32 * m .vb)) (eqb (length (m .p)) (2 * m .vb)) ∙ q
+    registers-by c q = either (eqb (length m.z) (32 * m.vb)) (eqb (length m.p) (2 * m.vb)) ∙ q
 
     pub of-registers : misfit ≡ true → (room : ℕ) → verdict_of f m W L word room ≡ Refused Registers
     of-registers q room = past-1 room ∙ ap (λ (y : Bool). cond y (Refused Registers) (from-3 room)) (registers-by true q)
 
     module _ (r : misfit ≡ false) where
-      pub sound : Sound (m .vb) (m .z) (m .p)
+      pub sound : Sound m.vb m.z m.p
       sound =
-          let v = length-sound (f .early) (f .streaming) (m .vb) (sym e ∙ not-false b t) in
-          let q = both (eqb (length (m .z)) (32 * m .vb)) (eqb (length (m .p)) (2 * m .vb)) r in
+          let v = length-sound f.early f.streaming m.vb (sym e ∙ not-false b t) in
+          let q = both (eqb (length m.z) (32 * m.vb)) (eqb (length m.p) (2 * m.vb)) r in
           record {
-            low = v .low;
-            high = v .high;
-            sixteen = v .sixteen;
-            long_z = eqb-true (length (m .z)) (32 * m .vb) (q .0);
-            long_p = eqb-true (length (m .p)) (2 * m .vb) (q .1);
+            low = v.low;
+            high = v.high;
+            sixteen = v.sixteen;
+            long_z = eqb-true (length m.z) (32 * m.vb) q.0;
+            long_p = eqb-true (length m.p) (2 * m.vb) q.1;
           }
         where
           both : (x y : Bool) → not x || not y ≡ false → (x ≡ true) × (y ≡ true)

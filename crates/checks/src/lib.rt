@@ -1,16 +1,16 @@
 // Checks 1 to 6 of a store over a lent machine and a window.
 mod stores;
 
-ghost use mathlib.Core.Path.{_≡_};
-ghost use Rattle·elements.specs.Machine.{machine};
-ghost use Rattle·checks·specs.specs.Checking.{CheckedAs};
-use elements::StridedAccess;
-use elements::VectorAccess;
+ghost use Rattle.std.specs.Prelude.{◌≡◌};
+ghost use Rattle.elements.specs.Machine.{machine};
+ghost use Rattle.checks.specs.Checking.{CheckedAs};
+
+use elements::{StridedAccess, VectorAccess};
 use encoding::Decoded;
-use verdicts::Flags;
-use verdicts::Refusal;
+use verdicts::{Flags, Refusal};
 
 // What checks 1 to 6 answer: the refusal that is due, or what the store's elements have in common.
+#[derive(Drop)]
 pub enum Checked {
     Refused { refusal: Refusal },
     Vector { access: VectorAccess },
@@ -29,7 +29,7 @@ pub fn check(
     length: u64,
     word: u32,
 ) -> Checked
-    ensures { λ r. ⌜ CheckedAs flags (machine vb (now (x .entry)) sp (now (z .entry)) (now (p .entry))) base length word r ⌝ }
+    ensures { CheckedAs flags (machine vb x.now sp z.now p.now) base length word result }
 {
     if !conditions::length_ok(vb, flags.early, flags.streaming) {
         return Checked::Refused {

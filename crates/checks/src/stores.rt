@@ -1,33 +1,25 @@
 // Checking a decoded store: verdicts 4 to 6.
-ghost use mathlib.Core.Path.{_≡_};
-ghost use mathlib.Core.Bool.{true, false};
-ghost use mathlib.Core.List.{List};
-ghost use Prim.Native.Nat.{ℕ, _*_, _/_, _%_, _^_, _≤_};
-ghost use lib.ListN.{length};
-ghost use Rattle·encoding.specs.Encoding.{feature_of, refused};
-ghost use Rattle·encoding.specs.declared.Feature.the-variants.{SME2};
-ghost use Rattle·endian.specs.LittleEndian.{Bytes};
-ghost use Rattle·elements.specs.Machine.{machine};
-ghost use Rattle·elements.specs.Counter.{highest};
-ghost use Rattle·elements.specs.Accesses.{VectorSound, vector_elements, StridedSound, strided_elements};
-ghost use Rattle·verdicts.specs.Verdicts.{on_stack, some_active, stack};
-ghost use Rattle·checks·specs.specs.Checking.{Sound, AccessSound, access_for, elements_in, checked_for};
+ghost use Rattle.std.specs.Prelude.{◌≡◌, true, false, List, ℕ, ◌*◌, ◌/◌, ◌%◌, ◌^◌, ◌≤◌, length};
+ghost use Rattle.encoding.specs.Encoding.{feature_of, refused};
+ghost use Rattle.encoding.specs.declared.Feature.TheVariants.{SME2};
+ghost use Rattle.endian.specs.LittleEndian.{Bytes};
+ghost use Rattle.elements.specs.Machine.{machine};
+ghost use Rattle.elements.specs.Counter.{highest};
+ghost use Rattle.elements.specs.Accesses.{VectorSound, vector_elements, StridedSound, strided_elements};
+ghost use Rattle.verdicts.specs.Verdicts.{on_stack, some_active, stack};
+ghost use Rattle.checks.specs.Checking.{Sound, AccessSound, access_for, elements_in, checked_for};
+
 use super::Checked;
-use conditions::is_illegal;
-use conditions::is_off;
-use conditions::is_stack;
-use elements::StridedAccess;
-use elements::VectorAccess;
-use encoding::Feature;
-use encoding::Store;
-use verdicts::Flags;
-use verdicts::Refusal;
+use conditions::{is_illegal, is_off, is_stack};
+use elements::{StridedAccess, VectorAccess};
+use encoding::{Feature, Store};
+use verdicts::{Flags, Refusal};
 
 // Whether some element of a scatter or quadword store is active.
 fn some_vector(v: VectorAccess, vb: usize, governing: &[u8]) -> bool
-    requires { ⌜ VectorSound v vb ⌝ }
-    requires { ⌜ length (now governing) ≡ vb / 8 ⌝ }
-    ensures { λ r. ⌜ ((offsets stored : List ℕ) → r ≡ some_active (vector_elements v offsets (now (governing .entry)) stored)) ⌝ }
+    requires vector_sound { VectorSound v vb }
+    requires governing_len { length governing.now ≡ vb / 8 }
+    ensures { (offsets stored : List ℕ) → result ≡ some_active (vector_elements v offsets governing.now stored) }
 {
     let count = v.count;
     let mut e: usize = 0;
@@ -49,10 +41,9 @@ fn stack_vector(
     flags: Flags,
     sp: u64,
 ) -> bool
-    requires { ⌜ VectorSound v vb ⌝ }
-    requires { ⌜ length (now governing) ≡ vb / 8 ⌝ }
-    ensures { λ r.
-        ⌜ ((offsets stored : List ℕ) → r ≡ stack flags sp «on_stack» (vector_elements v offsets (now (governing .entry)) stored)) ⌝ }
+    requires vector_sound { VectorSound v vb }
+    requires governing_len { length governing.now ≡ vb / 8 }
+    ensures { (offsets stored : List ℕ) → result ≡ stack flags sp on_stack (vector_elements v offsets governing.now stored) }
 {
     if !is_stack(flags, sp, on_stack, true) {
         return false;
@@ -62,15 +53,15 @@ fn stack_vector(
 
 // Whether the stack check refuses a strided store.
 fn stack_strided(s: StridedAccess, vb: usize, on_stack: bool, flags: Flags, sp: u64) -> bool
-    requires { ⌜ StridedSound s vb ⌝ }
-    ensures { λ r. ⌜ ((z : List ℕ) → r ≡ stack flags sp «on_stack» (strided_elements s vb z)) ⌝ }
+    requires { StridedSound s vb }
+    ensures { (z : List ℕ) → result ≡ stack flags sp on_stack (strided_elements s vb z) }
 {
     is_stack(flags, sp, on_stack, s.low < s.high)
 }
 
 // The feature of a store's class.
 fn feature_for(store: Store) -> Feature
-    ensures { λ r. ⌜ r ≡ feature_of store ⌝ }
+    ensures { result ≡ feature_of store }
 {
     match store {
         Store::Scatter(_) => Feature::SVE,
@@ -81,7 +72,7 @@ fn feature_for(store: Store) -> Feature
 
 // Whether a store's base is SP.
 fn is_on_stack(store: Store) -> bool
-    ensures { λ r. ⌜ r ≡ on_stack store ⌝ }
+    ensures { result ≡ on_stack store }
 {
     match store {
         Store::Scatter(f) => f.rn == 31,
@@ -92,9 +83,9 @@ fn is_on_stack(store: Store) -> bool
 
 // What a store's elements have in common. A counter is read only where VB is a power of two.
 fn access_for(store: Store, vb: usize, x: &[u64; 31], sp: u64, p: &[u8]) -> Checked
-    requires { ⌜ refused store ≡ false ⌝ }
-    requires { ⌜ (16 ≤ vb) × (vb ≤ 256) × (length (now p) ≡ 2 * vb) × (feature_of store ≡ SME2 → 4 * vb ≡ 2 ^ highest vb) ⌝ }
-    ensures { λ r. ⌜ ((z : List ℕ) → r ≡ access_for (machine vb (now (x .entry)) sp z (now (p .entry))) store) ⌝ }
+    requires store_value { refused store ≡ false }
+    requires le_vb { (16 ≤ vb) × (vb ≤ 256) × (length p.now ≡ 2 * vb) × (feature_of store ≡ SME2 → 4 * vb ≡ 2 ^ highest vb) }
+    ensures { (z : List ℕ) → result ≡ access_for (machine vb x.now sp z p.now) store }
 {
     match store {
         Store::Scatter(f) => Checked::Vector {
@@ -115,9 +106,9 @@ fn access_for(store: Store, vb: usize, x: &[u64; 31], sp: u64, p: &[u8]) -> Chec
 
 // Whether the stack check refuses a store, by its access.
 fn is_stack_for(access: Checked, vb: usize, p: &[u8], on_stack: bool, flags: Flags, sp: u64) -> bool
-    requires { ⌜ AccessSound access vb ⌝ }
-    requires { ⌜ (vb % 16 ≡ 0) × (length (now p) ≡ 2 * vb) ⌝ }
-    ensures { λ r. ⌜ ((z : List ℕ) → r ≡ stack flags sp «on_stack» (elements_in access vb z (now (p .entry)))) ⌝ }
+    requires access_sound { AccessSound access vb }
+    requires vb_value { (vb % 16 ≡ 0) × (length p.now ≡ 2 * vb) }
+    ensures { (z : List ℕ) → result ≡ stack flags sp on_stack (elements_in access vb z p.now) }
 {
     match access {
         Checked::Vector { access } => {
@@ -138,12 +129,11 @@ pub fn check_store(
     sp: u64,
     p: &[u8],
 ) -> Checked
-    requires { ⌜ refused store ≡ false ⌝ }
-    requires { ⌜ (16 ≤ vb) × (vb ≤ 256) × (vb % 16 ≡ 0) × (length (now p) ≡ 2 * vb)
-        × (flags .streaming ≡ true → 4 * vb ≡ 2 ^ highest vb) ⌝ }
-    ensures { λ r.
-        ⌜ ((z : List ℕ) → Sound vb z (now (p .entry)) → Bytes z
-        → r ≡ checked_for flags (machine vb (now (x .entry)) sp z (now (p .entry))) store) ⌝ }
+    requires store_value { refused store ≡ false }
+    requires le_vb { (16 ≤ vb) × (vb ≤ 256) × (vb % 16 ≡ 0) × (length p.now ≡ 2 * vb)
+        × (flags.streaming ≡ true → 4 * vb ≡ 2 ^ highest vb) }
+    ensures { (z : List ℕ) → Sound vb z p.now → Bytes z
+        → result ≡ checked_for flags (machine vb x.now sp z p.now) store }
 {
     let feature = feature_for(store);
     if is_off(flags, feature) {

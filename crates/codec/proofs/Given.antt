@@ -1,26 +1,19 @@
 -- The store that eight entries give, and when there is none. Assumes nothing.
-use mathlib.Core.Path.{_≡_, refl, sym, ap, _∙_, subst}
-use mathlib.Core.Bool.{Bool, true, false, true≢false, not, cond, _||_}
-use mathlib.Core.List.{List, [], _∷_}
-use Prim.Native.Nat.{ℕ, suc, _+_, _-_, _%_, _^_, _≤_, _<_}
-use native.Mathlib.Omega.{arith}
-use lib.IntN.{pos, negsuc}
+use Rattle.std.proofs.Common.{◌≡◌, ℕ, suc, ◌+◌, ◌-◌, ◌%◌, ◌^◌, ◌<◌, ◌≤◌, Bool, true, false, cond, not, ◌||◌, T, eqb, ltb, List, [], ◌∷◌, pos, negsuc, sym, refl, ap, ◌∙◌, subst, true≢false, arith, eqb→eq, ltb→lt, lt→ltb, w64, to_z, ltb-false, ltb-true, le-ltb, lt-ltb, eq-eqb, ne_eqb}
 use lib.Signed.{mag}
-use mir.Syntax.{w64}
-use mir.Val.{sel, to_z}
-use lib.Dec.{T, eqb, ltb, eqb→eq, lt→ltb, ltb→lt}
-use borrow.Author.Tests.{eq-eqb, ne-eqb, lt-ltb, le-ltb, ltb-true, ltb-false, not-true, not-false}
-use Rattle·encoding.specs.declared.Feature.{Feature}
-use Rattle·encoding.specs.declared.Feature.the-variants.{SVE, SME2, SVE2p1}
-use Rattle·encoding.specs.Encoding.{encode_of}
-use Rattle·encoding.specs.declared.Extension.the-variants.{None, Uxtw, Sxtw}
-use Rattle·encoding.specs.declared.Store.{Store}
-use Rattle·encoding.specs.declared.Encoded.{Encoded}
-use Rattle·encoding.specs.declared.Encoded.the-variants.{Word, Fields}
-use Rattle·encoding.proofs.Tests.{every, holds, fails, cond-true, cond-false, Facts, facts, told, telling}
-use Rattle·encoding.proofs.Narrow.{encoded-narrow}
-use Rattle·codec·specs.specs.Codec.{entry, extension_given, store_given, surplus, misgiven, feature_given, encode_given}
-use Rattle·codec·specs.specs.Narrow.{signed_byte, narrow, Narrow}
+use mir.Val.{sel}
+use borrow.Author.Tests.{not-true, not-false}
+use Rattle.encoding.specs.declared.Feature.{Feature}
+use Rattle.encoding.specs.declared.Feature.TheVariants.{SVE, SME2, SVE2p1}
+use Rattle.encoding.specs.Encoding.{encode_of}
+use Rattle.encoding.specs.declared.Extension.TheVariants.{None, Uxtw, Sxtw}
+use Rattle.encoding.specs.declared.Store.{Store}
+use Rattle.encoding.specs.declared.Encoded.{Encoded}
+use Rattle.encoding.specs.declared.Encoded.TheVariants.{Word, Fields}
+use Rattle.encoding.proofs.Tests.{every, holds, fails, cond-true, cond-false, Facts, facts, told, telling}
+use Rattle.encoding.proofs.Narrow.{encoded-narrow}
+use Rattle.codec.specs.Codec.{entry, extension_given, store_given, surplus, misgiven, feature_given, encode_given}
+use Rattle.codec.specs.Narrow.{signed_byte, narrow, Narrow}
 
 -- ---- extensions
 
@@ -29,17 +22,17 @@ given-none n e = sym (ap (λ (b : Bool). cond b None (cond (eqb n 1) Uxtw Sxtw))
 
 pub given-uxtw : (n : ℕ) → (n ≡ 0 → ⊥) → n ≡ 1 → Uxtw ≡ extension_given n
 given-uxtw n f e =
-    sym (ap (λ (b : Bool). cond b None (cond (eqb n 1) Uxtw Sxtw)) (ne-eqb n 0 f) ∙ ap (λ (b : Bool). cond b Uxtw Sxtw) (eq-eqb n 1 e))
+    sym (ap (λ (b : Bool). cond b None (cond (eqb n 1) Uxtw Sxtw)) (ne_eqb n 0 f) ∙ ap (λ (b : Bool). cond b Uxtw Sxtw) (eq-eqb n 1 e))
 
 pub given-sxtw : (n : ℕ) → (n ≡ 0 → ⊥) → (n ≡ 1 → ⊥) → Sxtw ≡ extension_given n
 given-sxtw n f g =
-    sym (ap (λ (b : Bool). cond b None (cond (eqb n 1) Uxtw Sxtw)) (ne-eqb n 0 f) ∙ ap (λ (b : Bool). cond b Uxtw Sxtw) (ne-eqb n 1 g))
+    sym (ap (λ (b : Bool). cond b None (cond (eqb n 1) Uxtw Sxtw)) (ne_eqb n 0 f) ∙ ap (λ (b : Bool). cond b Uxtw Sxtw) (ne_eqb n 1 g))
 
 -- ---- entries that give no store
 
 module _ (x : Feature) (es : List ℕ) where
   pub misgiven-last : (entry es 7 ≡ 0 → ⊥) → true ≡ misgiven x es
-  misgiven-last f = sym (ap (λ (b : Bool). not b || ltb 2 (entry es 2) || surplus x es) (ne-eqb (entry es 7) 0 f))
+  misgiven-last f = sym (ap (λ (b : Bool). not b || ltb 2 (entry es 2) || surplus x es) (ne_eqb (entry es 7) 0 f))
 
   module _ (e : entry es 7 ≡ 0) where
     pub misgiven-extension : 2 < entry es 2 → true ≡ misgiven x es
@@ -70,8 +63,8 @@ neither false b e = absurd (true≢false e)
 
 -- ---- numbers that fit a byte
 
-same-test : (a b c d : ℕ) → (a < b → c < d) → (c < d → a < b) → ltb a b ≡ ltb c d
-same-test a b c d f g = go (ltb a b) refl
+same_test : (a b c d : ℕ) → (a < b → c < d) → (c < d → a < b) → ltb a b ≡ ltb c d
+same_test a b c d f g = go (ltb a b) refl
   where
     go : (t : Bool) → ltb a b ≡ t → t ≡ ltb c d
     go true e = sym (lt-ltb c d (f (ltb-true a b e)))
@@ -84,10 +77,10 @@ pub signed-byte : (n r b : ℕ) → n < 2 ^ 64 → r ≡ (n + 128) % 2 ^ 64 → 
 signed-byte n r b h e l = go (ltb n (2 ^ 63)) refl
   where
     go : (t : Bool) → ltb n (2 ^ 63) ≡ t → ltb r b ≡ ltb (mag (sel t (pos n) (negsuc (2 ^ 64 - suc n)))) 128
-    go true p = let low = ltb-true n (2 ^ 63) p in same-test r b n 128 (λ t. omega arith) (λ t. omega arith)
+    go true p = let low = ltb-true n (2 ^ 63) p in same_test r b n 128 (λ t. omega arith) (λ t. omega arith)
     go false p =
         let high = ltb-false n (2 ^ 63) p in
-        same-test r b (2 ^ 64 - suc n) 128 (λ t. omega arith) (λ t. omega arith)
+        same_test r b (2 ^ 64 - suc n) 128 (λ t. omega arith) (λ t. omega arith)
 
 -- the tests of entries 1, 3, 4, 5 and 6
 abbrev byte : List ℕ → ℕ → Bool
@@ -120,23 +113,23 @@ module _ (es : List ℕ) where
   word-narrow SVE m w e =
       let n = encoded-narrow (store_given SVE es) w e in
       let g = three (eqb (entry es 7) 0) (ltb 2 (entry es 2)) (surplus SVE es) m in
-      let f = facts (byte es 1 ∷ byte es 3 ∷ byte es 4 ∷ byte es 5 ∷ []) (n .numbers) in
-      let s = zero-signed (not-other (eqb (entry es 6) 0) (g .2)) in
+      let f = facts (byte es 1 ∷ byte es 3 ∷ byte es 4 ∷ byte es 5 ∷ []) n.numbers in
+      let s = zero-signed (not-other (eqb (entry es 6) 0) g.2) in
       telling (byte es 0) (rest es)
-      (lt→ltb (entry es 0) 256 (n .class), (f .0, (f .1 .0, (f .1 .1 .0, (f .1 .1 .1 .0, (s, tt))))))
+      (lt→ltb (entry es 0) 256 n.class, (f.0, (f.1.0, (f.1.1.0, (f.1.1.1.0, (s, tt))))))
   word-narrow SME2 m w e =
       let n = encoded-narrow (store_given SME2 es) w e in
-      let f = facts (byte es 1 ∷ byte es 3 ∷ byte es 4 ∷ []) (n .numbers) in
-      let s = lt→ltb (mag (to_z w64 (entry es 6))) 128 (n .multiple .sfits) in
+      let f = facts (byte es 1 ∷ byte es 3 ∷ byte es 4 ∷ []) n.numbers in
+      let s = lt→ltb (mag (to_z w64 (entry es 6))) 128 n.multiple.sfits in
       telling (byte es 0) (rest es)
-      (lt→ltb (entry es 0) 256 (n .class), (f .0, (f .1 .0, (f .1 .1 .0, (lt→ltb (entry es 5) 256 (n .first), (s, tt))))))
+      (lt→ltb (entry es 0) 256 n.class, (f.0, (f.1.0, (f.1.1.0, (lt→ltb (entry es 5) 256 n.first, (s, tt))))))
   word-narrow SVE2p1 m w e =
       let n = encoded-narrow (store_given SVE2p1 es) w e in
       let g = three (eqb (entry es 7) 0) (ltb 2 (entry es 2)) (surplus SVE2p1 es) m in
-      let f = facts (byte es 1 ∷ byte es 3 ∷ byte es 4 ∷ byte es 5 ∷ []) (n .numbers) in
-      let s = zero-signed (neither (eqb (entry es 2) 0) (eqb (entry es 6) 0) (g .2) .1) in
+      let f = facts (byte es 1 ∷ byte es 3 ∷ byte es 4 ∷ byte es 5 ∷ []) n.numbers in
+      let s = zero-signed (neither (eqb (entry es 2) 0) (eqb (entry es 6) 0) g.2).1 in
       telling (byte es 0) (rest es)
-      (lt→ltb (entry es 0) 256 (n .class), (f .0, (f .1 .0, (f .1 .1 .0, (f .1 .1 .1 .0, (s, tt))))))
+      (lt→ltb (entry es 0) 256 n.class, (f.0, (f.1.0, (f.1.1.0, (f.1.1.1.0, (s, tt))))))
 
 -- ---- what encoding the entries answers
 

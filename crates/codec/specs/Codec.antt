@@ -1,28 +1,24 @@
 -- A decoded store as eight numbers at the interface, and the store that eight numbers give. Assumes nothing.
-use Prim.Native.Nat.{ℕ}
-use mathlib.Core.Bool.{Bool, not, cond, _||_}
-use mathlib.Core.List.{List, [], _∷_}
-use lib.Dec.{eqb, ltb}
-use lib.ListN.{get_or}
-use mir.Syntax.{w64}
-use mir.Val.{to_z}
-use Rattle·encoding.specs.declared.Feature.{Feature}
-use Rattle·encoding.specs.declared.Feature.the-variants.{SVE, SME2, SVE2p1}
-use Rattle·encoding.specs.Encoding.{class_numbered, encode_of}
-use Rattle·encoding.specs.Answers.{encoded_word}
-use Rattle·encoding.specs.declared.Extension.{Extension}
-use Rattle·encoding.specs.declared.Extension.the-variants.{None, Uxtw, Sxtw}
-use Rattle·encoding.specs.declared.Store.{Store}
-use Rattle·encoding.specs.declared.Store.the-variants.{Scatter, Strided, Quadword}
-use Rattle·encoding.specs.declared.Encoded.{Encoded}
-use Rattle·encoding.specs.declared.Encoded.the-variants.{Fields}
+use Rattle.std.specs.Prelude.{ℕ, Bool, cond, not, ◌||◌, List, [], ◌∷◌, ◌==◌, nat_lt, slice_index}
+use Rattle.std.specs.Int.{w64}
+use Rattle.std.proofs.Common.{to_z}
+use Rattle.encoding.specs.declared.Feature.{Feature}
+use Rattle.encoding.specs.declared.Feature.TheVariants.{SVE, SME2, SVE2p1}
+use Rattle.encoding.specs.Encoding.{class_numbered, encode_of}
+use Rattle.encoding.specs.Answers.{encoded_word}
+use Rattle.encoding.specs.declared.Extension.{Extension}
+use Rattle.encoding.specs.declared.Extension.TheVariants.{None, Uxtw, Sxtw}
+use Rattle.encoding.specs.declared.Store.{Store}
+use Rattle.encoding.specs.declared.Store.TheVariants.{Scatter, Strided, Quadword}
+use Rattle.encoding.specs.declared.Encoded.{Encoded}
+use Rattle.encoding.specs.declared.Encoded.TheVariants.{Fields}
 
 abbrev pub entry : List ℕ → ℕ → ℕ
-entry es i = get_or es i 0
+entry es i = slice_index es i
 
 -- entry 2: 0 none, 1 UXTW, 2 SXTW
 abbrev pub extension_given : ℕ → Extension
-extension_given n = cond (eqb n 0) None (cond (eqb n 1) Uxtw Sxtw)
+extension_given n = cond (n == 0) None (cond (n == 1) Uxtw Sxtw)
 
 -- the store that the entries name, in the case of its class's feature. `to_z w64 n` is n's 64 bits read as signed
 abbrev pub store_given : Feature → List ℕ → Store
@@ -51,17 +47,17 @@ store_given SVE2p1 es =
 
 -- an entry other than 0 that such a store doesn't have: the multiple, the extension, or both
 abbrev pub surplus : Feature → List ℕ → Bool
-surplus SVE es = not (eqb (entry es 6) 0)
-surplus SME2 es = not (eqb (entry es 2) 0)
-surplus SVE2p1 es = not (eqb (entry es 2) 0) || not (eqb (entry es 6) 0)
+surplus SVE es = not (entry es 6 == 0)
+surplus SME2 es = not (entry es 2 == 0)
+surplus SVE2p1 es = not (entry es 2 == 0) || not (entry es 6 == 0)
 
 -- entries that give no store: such an entry, an entry 7 other than 0, an extension above 2
 abbrev pub misgiven : Feature → List ℕ → Bool
-misgiven x es = not (eqb (entry es 7) 0) || ltb 2 (entry es 2) || surplus x es
+misgiven x es = not (entry es 7 == 0) || nat_lt 2 (entry es 2) || surplus x es
 
 -- the feature of the class that entry 0 numbers
 abbrev pub feature_given : List ℕ → Feature
-feature_given es = class_numbered (entry es 0) .feature
+feature_given es = (class_numbered (entry es 0)).feature
 
 -- what encoding eight entries answers: 11 for these, and for whatever document 01 refuses
 unfoldable pub encode_given : List ℕ → Encoded

@@ -1,15 +1,10 @@
 -- What is promised of the numbers that decoding and encoding exchange at the interface: "encoding is its inverse". Each has its proof in
 -- proofs/Statements.antt. Assumes nothing.
-use Prim.Native.Nat.{ℕ, _^_, _<_}
-use mathlib.Core.Bool.{true}
-use mathlib.Core.List.{List, [], _∷_}
-use mathlib.Core.Logic.{_↔_, _⊎_}
-use mathlib.Core.Path.{_≡_}
-use lib.ListN.{length}
-use Rattle·encoding.specs.Answers.{decoded_number, decoded_numbers, encoded_number}
-use Rattle·encoding.specs.Decoding.{decode_of}
-use Rattle·encoding.specs.Statements.{Caused}
-use Rattle·codec·specs.specs.Codec.{entry, store_given, surplus, feature_given, encode_given, encoded_answers}
+use Rattle.std.specs.Prelude.{◌≡◌, ℕ, ◌^◌, ◌<◌, true, ◌⊎◌, ◌↔◌, List, [], ◌∷◌, length, ◌≢◌}
+use Rattle.encoding.specs.Answers.{decoded_number, decoded_numbers, encoded_number}
+use Rattle.encoding.specs.Decoding.{decode_of}
+use Rattle.encoding.specs.Statements.{Caused}
+use Rattle.codec.specs.Codec.{entry, store_given, surplus, feature_given, encode_given, encoded_answers}
 
 -- the eight numbers of every 32-bit word that decodes encode to that word
 abbrev pub EncodesDecodedNumbers : Type 0
@@ -31,5 +26,5 @@ abbrev pub RefusesNumbers : Type 0
 RefusesNumbers =
     (es : List ℕ)
     → (encoded_number (encode_given es) ≡ 11)
-    ↔ ((entry es 7 ≡ 0 → ⊥)
+    ↔ ((entry es 7 ≢ 0)
     ⊎ ((2 < entry es 2) ⊎ ((surplus (feature_given es) es ≡ true) ⊎ Caused (store_given (feature_given es) es))))

@@ -1,24 +1,16 @@
 // Decoded stores as eight numbers, and back: class, Zm or Rm, extension, Pg or Pc, Rn or Zn, Zt or first register, the signed
 // multiple in two's complement, zero.
-ghost use mathlib.Core.Path.{_≡_};
-ghost use Prim.Native.Nat.{_<_};
-ghost use mathlib.Core.List.{_∷_, []};
-ghost use Rattle·encoding.specs.declared.Feature.the-variants.{SVE, SME2, SVE2p1};
-ghost use Rattle·encoding.specs.Answers.{extension_number, store_numbers};
-ghost use Rattle·codec·specs.specs.Codec.{entry, extension_given, store_given, misgiven, encode_given};
-ghost use Rattle·codec·specs.specs.Narrow.{signed_byte, narrow, Narrow};
-use encoding::Encoded;
-use encoding::Extension;
-use encoding::Feature;
-use encoding::QuadwordFields;
-use encoding::ScatterFields;
-use encoding::Store;
-use encoding::StridedFields;
-use encoding::complement::bits_of;
-use encoding::complement::signed_of;
+ghost use Rattle.std.specs.Prelude.{◌≡◌, ◌<◌, [], ◌∷◌};
+ghost use Rattle.encoding.specs.declared.Feature.TheVariants.{SVE, SME2, SVE2p1};
+ghost use Rattle.encoding.specs.Answers.{extension_number, store_numbers};
+ghost use Rattle.codec.specs.Codec.{entry, extension_given, store_given, misgiven, encode_given};
+ghost use Rattle.codec.specs.Narrow.{signed_byte, narrow, Narrow};
+
+use encoding::complement::{bits_of, signed_of};
+use encoding::{Encoded, Extension, Feature, QuadwordFields, ScatterFields, Store, StridedFields};
 
 fn number_of(extension: Extension) -> u64
-    ensures { λ r. ⌜ r ≡ extension_number extension ⌝ }
+    ensures { result ≡ extension_number extension }
 {
     match extension {
         Extension::None => 0,
@@ -28,7 +20,7 @@ fn number_of(extension: Extension) -> u64
 }
 
 fn scatter_numbers(f: ScatterFields, extension: u64) -> [u64; 8]
-    ensures { λ r. ⌜ r ≡ f .class ∷ f .zm ∷ extension ∷ f .pg ∷ f .rn ∷ f .zt ∷ 0 ∷ 0 ∷ [] ⌝ }
+    ensures { result ≡ f.class ∷ f.zm ∷ extension ∷ f.pg ∷ f.rn ∷ f.zt ∷ 0 ∷ 0 ∷ [] }
 {
     [
         f.class as u64,
@@ -43,7 +35,7 @@ fn scatter_numbers(f: ScatterFields, extension: u64) -> [u64; 8]
 }
 
 fn strided_numbers(f: StridedFields, multiple: u64) -> [u64; 8]
-    ensures { λ r. ⌜ r ≡ f .class ∷ f .rm ∷ 0 ∷ f .pc ∷ f .rn ∷ f .first ∷ multiple ∷ 0 ∷ [] ⌝ }
+    ensures { result ≡ f.class ∷ f.rm ∷ 0 ∷ f.pc ∷ f.rn ∷ f.first ∷ multiple ∷ 0 ∷ [] }
 {
     [
         f.class as u64,
@@ -58,7 +50,7 @@ fn strided_numbers(f: StridedFields, multiple: u64) -> [u64; 8]
 }
 
 fn quadword_numbers(f: QuadwordFields) -> [u64; 8]
-    ensures { λ r. ⌜ r ≡ f .class ∷ f .rm ∷ 0 ∷ f .pg ∷ f .zn ∷ f .zt ∷ 0 ∷ 0 ∷ [] ⌝ }
+    ensures { result ≡ f.class ∷ f.rm ∷ 0 ∷ f.pg ∷ f.zn ∷ f.zt ∷ 0 ∷ 0 ∷ [] }
 {
     [
         f.class as u64,
@@ -74,7 +66,7 @@ fn quadword_numbers(f: QuadwordFields) -> [u64; 8]
 
 // A store as eight numbers.
 pub fn numbers_of(store: Store) -> [u64; 8]
-    ensures { λ r. ⌜ r ≡ store_numbers store ⌝ }
+    ensures { result ≡ store_numbers store }
 {
     match store {
         Store::Scatter(f) => {
@@ -87,7 +79,7 @@ pub fn numbers_of(store: Store) -> [u64; 8]
 }
 
 fn extension_of(n: u64) -> Extension
-    ensures { λ r. ⌜ r ≡ extension_given n ⌝ }
+    ensures { result ≡ extension_given n }
 {
     if n == 0 {
         return Extension::None;
@@ -101,14 +93,14 @@ fn extension_of(n: u64) -> Extension
 
 // Whether 64 bits, read as signed, are -128..127.
 fn is_signed_byte(bits: u64) -> bool
-    ensures { λ r. ⌜ r ≡ signed_byte bits ⌝ }
+    ensures { result ≡ signed_byte bits }
 {
     std::num::wrapping_add_u64(bits, 128) < 256
 }
 
 // Whether the entries that a store keeps in a byte fit one.
 fn is_narrow(fields: &[u64; 8]) -> bool
-    ensures { λ r. ⌜ r ≡ narrow (now (fields .entry)) ⌝ }
+    ensures { result ≡ narrow fields.now }
 {
     (fields[0] < 256)
         & (fields[1] < 256)
@@ -120,7 +112,7 @@ fn is_narrow(fields: &[u64; 8]) -> bool
 
 // Whether the entries give no store of a class with this feature.
 fn is_misgiven(feature: Feature, fields: &[u64; 8]) -> bool
-    ensures { λ r. ⌜ r ≡ misgiven feature (now (fields .entry)) ⌝ }
+    ensures { result ≡ misgiven feature fields.now }
 {
     if fields[7] != 0 {
         return true;
@@ -136,8 +128,8 @@ fn is_misgiven(feature: Feature, fields: &[u64; 8]) -> bool
 }
 
 fn scatter_given(fields: &[u64; 8]) -> ScatterFields
-    requires { ⌜ Narrow (now fields) ⌝ }
-    ensures { λ r. ⌜ Store.Scatter r ≡ store_given SVE (now (fields .entry)) ⌝ }
+    requires { Narrow fields.now }
+    ensures { Store.Scatter result ≡ store_given SVE fields.now }
 {
     ScatterFields {
         class: fields[0] as u8,
@@ -150,8 +142,8 @@ fn scatter_given(fields: &[u64; 8]) -> ScatterFields
 }
 
 fn strided_given(fields: &[u64; 8]) -> StridedFields
-    requires { ⌜ Narrow (now fields) ⌝ }
-    ensures { λ r. ⌜ Store.Strided r ≡ store_given SME2 (now (fields .entry)) ⌝ }
+    requires { Narrow fields.now }
+    ensures { Store.Strided result ≡ store_given SME2 fields.now }
 {
     StridedFields {
         class: fields[0] as u8,
@@ -164,8 +156,8 @@ fn strided_given(fields: &[u64; 8]) -> StridedFields
 }
 
 fn quadword_given(fields: &[u64; 8]) -> QuadwordFields
-    requires { ⌜ Narrow (now fields) ⌝ }
-    ensures { λ r. ⌜ Store.Quadword r ≡ store_given SVE2p1 (now (fields .entry)) ⌝ }
+    requires { Narrow fields.now }
+    ensures { Store.Quadword result ≡ store_given SVE2p1 fields.now }
 {
     QuadwordFields {
         class: fields[0] as u8,
@@ -178,7 +170,7 @@ fn quadword_given(fields: &[u64; 8]) -> QuadwordFields
 
 // The word that eight numbers give. Each is compared before it is narrowed.
 pub fn encode_given(fields: &[u64; 8]) -> Encoded
-    ensures { λ r. ⌜ r ≡ encode_given (now (fields .entry)) ⌝ }
+    ensures { result ≡ encode_given fields.now }
 {
     if !is_narrow(fields) {
         return Encoded::Fields;

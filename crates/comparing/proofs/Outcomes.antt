@@ -1,30 +1,30 @@
 -- What comparing answers, from what its tests say; each answer is the only one. Assumes nothing.
-use mathlib.Core.Path.{_≡_, refl, sym, ap, ap₂, _∙_, subst}
-use Prim.Native.Nat.{ℕ, suc, _+_, _*_, _/_, _≤_, _<_}
-use mathlib.Core.List.{List, [], _∷_, _++_}
+use mathlib.Core.Path.{◌≡◌, refl, sym, ap, ap₂, ◌∙◌, subst}
+use Prim.Native.Nat.{ℕ, suc, ◌+◌, ◌*◌, ◌/◌, ◌≤◌, ◌<◌}
+use mathlib.Core.List.{List, [], ◌∷◌, ◌++◌}
 use mathlib.Core.Bool.{Bool, true, false}
 use mathlib.Core.Option.{Option, none, some}
 use native.Mathlib.Omega.{arith}
 use lib.ListN.{length, drop}
 use lib.Dec.{eqb}
 use borrow.Author.Tests.{lt-ltb, le-ltb}
-use Rattle·endian.specs.LittleEndian.{Bytes}
-use Rattle·endian.proofs.Order.{three, two, absurdly}
-use Rattle·writes.specs.Sets.{ByteWrite}
-use Rattle·writes.specs.Encoding.{PatchOf}
-use Rattle·patch.specs.Answers.{judged_number}
-use Rattle·patch.specs.Judging.{judged}
-use Rattle·patch.specs.Placing.{set_of}
-use Rattle·patch.specs.declared.Judged.{Judged}
-use Rattle·patch.specs.declared.Judged.the-variants.{Patch, NoPatch as Other}
-use Rattle·patch.proofs.Patches.{patch-one, patch-set, patch-judged, judged-set}
-use Rattle·comparing·specs.specs.Differences.{Sides, sides, Difference, differ, Ascends, listed_at, Lists}
-use Rattle·comparing·specs.specs.Comparing.{numbers_of, IsPatch, NoPatch, Differing, ComparedTo}
-use Rattle·comparing·specs.specs.Merging.{differences, put, lacking, Patches}
-use Rattle·comparing·specs.specs.declared.Compared.{Compared}
-use Rattle·comparing·specs.specs.declared.Compared.the-variants.{Done, NoRoom, FirstBad, SecondBad}
-use Rattle·comparing·proofs.proofs.Merged.{differences-listed, listed-here, listed-there}
-use Rattle·comparing·proofs.proofs.Zipping.{put-all}
+use Rattle.endian.specs.LittleEndian.{Bytes}
+use Rattle.endian.proofs.Order.{three, two, absurdly}
+use Rattle.writes.specs.Sets.{ByteWrite}
+use Rattle.writes.specs.Encoding.{PatchOf}
+use Rattle.patch.specs.Answers.{judged_number}
+use Rattle.patch.specs.Judging.{judged}
+use Rattle.patch.specs.Placing.{set_of}
+use Rattle.patch.specs.declared.Judged.{Judged}
+use Rattle.patch.specs.declared.Judged.TheVariants.{Patch, NoPatch as Other}
+use Rattle.patch.proofs.Patches.{patch-one, patch-set, patch-judged, judged-set}
+use Rattle.comparing.specs.Differences.{Sides, sides, Difference, differ, Ascends, listed_at, Lists}
+use Rattle.comparing.specs.Comparing.{numbers_of, IsPatch, NoPatch, Differing, ComparedTo}
+use Rattle.comparing.specs.Merging.{differences, put, lacking, Patches}
+use Rattle.comparing.specs.declared.Compared.{Compared}
+use Rattle.comparing.specs.declared.Compared.TheVariants.{Done, NoRoom, FirstBad, SecondBad}
+use Rattle.comparing.proofs.Merged.{differences-listed, listed_here, listed-there}
+use Rattle.comparing.proofs.Zipping.{put_all}
 
 -- ---- whether a string is a patch
 
@@ -32,7 +32,7 @@ pub is-patch : (s : List ℕ) → Bytes s → (b : Bool) → b ≡ eqb (judged_n
 is-patch s hb b e t = go (judged s) refl (sym t ∙ e)
   where
     go : (j : Judged) → judged s ≡ j → true ≡ eqb (judged_number j) 0 → IsPatch s
-    go (Patch k n) q w = (set_of s, judged-set s k n hb q .0)
+    go (Patch k n) q w = (set_of s, (judged-set s k n hb q).0)
     go (Other k a) q w = absurdly cc
 
 pub no-patch : (s : List ℕ) → (b : Bool) → b ≡ eqb (judged_number (judged s)) 0 → b ≡ false → NoPatch s
@@ -43,22 +43,22 @@ no-patch s b e f S h = go (judged s) (patch-judged S s h) (sym f ∙ e)
     go (Other k a) q w = absurdly cc
 
 pub patches : (s t : List ℕ) → IsPatch s → IsPatch t → Patches s t
-patches s t g h = record { one = g .0; two = h .0; first = g .1; second = h .1 }
+patches s t g h = record { one = g.0; two = h.0; first = g.1; second = h.1 }
 
 -- ---- each answer
 
 pub differing : (s t : List ℕ) → Patches s t → Differing s t (differences (set_of s) (set_of t))
 differing s t h =
-    let S = h .one in
-    let T = h .two in
+    let S = h.one in
+    let T = h.two in
     let e : differences S T ≡ differences (set_of s) (set_of t) =
-    sym (ap₂ differences (patch-set S s (h .first)) (patch-set T t (h .second))) in
+    sym (ap₂ differences (patch-set S s h.first) (patch-set T t h.second)) in
     record {
       one = S;
       two = T;
-      first = h .first;
-      second = h .second;
-      lists = subst (Lists S T) e (differences-listed S T (h .first .within .set) (h .second .within .set));
+      first = h.first;
+      second = h.second;
+      lists = subst (Lists S T) e (differences-listed S T h.first.within.set h.second.within.set);
     }
 
 pub compare-first : (s t l : List ℕ) → NoPatch s → ComparedTo s t l FirstBad l
@@ -93,77 +93,77 @@ pub compare-short : (s t l : List ℕ) (n : ℕ) → Patches s t → n ≡ lengt
 unfolding ComparedTo
 compare-short s t l n h e m = ((differences (set_of s) (set_of t), differing s t h, e), m, refl)
 
-pub compare-done : (s t l l′ : List ℕ) (n : ℕ) → Patches s t → n ≡ length (differences (set_of s) (set_of t)) → 3 * n ≤ length l
-    → l′ ≡ put 0 l (differences (set_of s) (set_of t)) → ComparedTo s t l (Done n) l′
+pub compare-done : (s t l l' : List ℕ) (n : ℕ) → Patches s t → n ≡ length (differences (set_of s) (set_of t)) → 3 * n ≤ length l
+    → l' ≡ put 0 l (differences (set_of s) (set_of t)) → ComparedTo s t l (Done n) l'
 unfolding ComparedTo
-compare-done s t l l′ n h e m el =
+compare-done s t l l' n h e m el =
     let D = differences (set_of s) (set_of t) in (
       D,
       differing s t h,
       e,
       m,
-      el ∙ put-all l D (omega (arith, e, m)) ∙ ap (λ (k : ℕ). numbers_of D ++ drop (3 * k) l) (sym e),
+      el ∙ put_all l D (omega (arith, e, m)) ∙ ap (λ (k : ℕ). numbers_of D ++ drop (3 * k) l) (sym e),
     )
 
 -- ---- one list of what differs
 
-listed-below : (x f : ℕ) (ds : List Difference) → Ascends f ds → x < f → listed_at x ds ≡ none
+listed_below : (x f : ℕ) (ds : List Difference) → Ascends f ds → x < f → listed_at x ds ≡ none
 unfolding listed_at
-listed-below x f [] g h = refl
-listed-below x f (differ a o p ∷ ds) g h =
-    let u : f ≤ a = g .0 in
-    listed-there x a o p ds (λ e. omega arith) ∙ listed-below x (suc a) ds (g .1) (omega arith)
+listed_below x f [] g h = refl
+listed_below x f (differ a o p ∷ ds) g h =
+    let u : f ≤ a = g.0 in
+    listed-there x a o p ds (λ e. omega arith) ∙ listed_below x (suc a) ds g.1 (omega arith)
 
 nowhere : {X : Type 0} (x : Sides) → none ≡ some x → X
 nowhere x e = absurdly cc
 
-module _ (a : ℕ) (o p o′ p′ : Option ℕ) (ds ds′ : List Difference) (g : Ascends (suc a) ds) (g′ : Ascends (suc a) ds′)
-    (h : (x : ℕ) → listed_at x (differ a o p ∷ ds) ≡ listed_at x (differ a o′ p′ ∷ ds′)) where
-  tails : (x : ℕ) → listed_at x ds ≡ listed_at x ds′
+module _ (a : ℕ) (o p o' p' : Option ℕ) (ds ds' : List Difference) (g : Ascends (suc a) ds) (g' : Ascends (suc a) ds')
+    (h : (x : ℕ) → listed_at x (differ a o p ∷ ds) ≡ listed_at x (differ a o' p' ∷ ds')) where
+  tails : (x : ℕ) → listed_at x ds ≡ listed_at x ds'
   tails x =
       three x a
-      (λ l. listed-below x (suc a) ds g (omega arith) ∙ sym (listed-below x (suc a) ds′ g′ (omega arith)))
-      (λ e. listed-below x (suc a) ds g (omega arith) ∙ sym (listed-below x (suc a) ds′ g′ (omega arith)))
+      (λ l. listed_below x (suc a) ds g (omega arith) ∙ sym (listed_below x (suc a) ds' g' (omega arith)))
+      (λ e. listed_below x (suc a) ds g (omega arith) ∙ sym (listed_below x (suc a) ds' g' (omega arith)))
       (λ l.
       let n : x ≡ a → ⊥ = λ e. omega arith in
-      sym (listed-there x a o p ds n) ∙ h x ∙ listed-there x a o′ p′ ds′ n)
+      sym (listed-there x a o p ds n) ∙ h x ∙ listed-there x a o' p' ds' n)
 
-  heads : some (sides o p) ≡ some (sides o′ p′)
-  heads = sym (listed-here a a o p ds refl) ∙ h a ∙ listed-here a a o′ p′ ds′ refl
+  heads : some (sides o p) ≡ some (sides o' p')
+  heads = sym (listed_here a a o p ds refl) ∙ h a ∙ listed_here a a o' p' ds' refl
 
-same-start : (a a′ : ℕ) (o p o′ p′ : Option ℕ) (ds ds′ : List Difference) → a ≡ a′ → Ascends (suc a) ds → Ascends (suc a′) ds′
-    → ((x : ℕ) → listed_at x (differ a o p ∷ ds) ≡ listed_at x (differ a′ o′ p′ ∷ ds′))
-    → (Ascends (suc a) ds′ → ((x : ℕ) → listed_at x ds ≡ listed_at x ds′) → ds ≡ ds′) → differ a o p ∷ ds ≡ differ a′ o′ p′ ∷ ds′
-same-start a a′ o p o′ p′ ds ds′ e g g′ h ih =
-    let k : Ascends (suc a) ds′ = subst (λ (z : ℕ). Ascends (suc z) ds′) (sym e) g′ in
-    let m : (x : ℕ) → listed_at x (differ a o p ∷ ds) ≡ listed_at x (differ a o′ p′ ∷ ds′) =
-    subst (λ (z : ℕ). (x : ℕ) → listed_at x (differ a o p ∷ ds) ≡ listed_at x (differ z o′ p′ ∷ ds′)) (sym e) h in
-    let w : some (sides o p) ≡ some (sides o′ p′) = heads a o p o′ p′ ds ds′ g k m in
-    let t : ds ≡ ds′ = ih k (tails a o p o′ p′ ds ds′ g k m) in
+same_start : (a a' : ℕ) (o p o' p' : Option ℕ) (ds ds' : List Difference) → a ≡ a' → Ascends (suc a) ds → Ascends (suc a') ds'
+    → ((x : ℕ) → listed_at x (differ a o p ∷ ds) ≡ listed_at x (differ a' o' p' ∷ ds'))
+    → (Ascends (suc a) ds' → ((x : ℕ) → listed_at x ds ≡ listed_at x ds') → ds ≡ ds') → differ a o p ∷ ds ≡ differ a' o' p' ∷ ds'
+same_start a a' o p o' p' ds ds' e g g' h ih =
+    let k : Ascends (suc a) ds' = subst (λ (z : ℕ). Ascends (suc z) ds') (sym e) g' in
+    let m : (x : ℕ) → listed_at x (differ a o p ∷ ds) ≡ listed_at x (differ a o' p' ∷ ds') =
+    subst (λ (z : ℕ). (x : ℕ) → listed_at x (differ a o p ∷ ds) ≡ listed_at x (differ z o' p' ∷ ds')) (sym e) h in
+    let w : some (sides o p) ≡ some (sides o' p') = heads a o p o' p' ds ds' g k m in
+    let t : ds ≡ ds' = ih k (tails a o p o' p' ds ds' g k m) in
     cc
 
-pub one-list : (f : ℕ) (ds ds′ : List Difference) → Ascends f ds → Ascends f ds′ → ((x : ℕ) → listed_at x ds ≡ listed_at x ds′) → ds ≡ ds′
+pub one_list : (f : ℕ) (ds ds' : List Difference) → Ascends f ds → Ascends f ds' → ((x : ℕ) → listed_at x ds ≡ listed_at x ds') → ds ≡ ds'
 unfolding listed_at
-one-list f [] [] g g′ h = refl
-one-list f [] (differ a o p ∷ ds) g g′ h = nowhere (sides o p) (h a ∙ listed-here a a o p ds refl)
-one-list f (differ a o p ∷ ds) [] g g′ h = nowhere (sides o p) (sym (h a) ∙ listed-here a a o p ds refl)
-one-list f (differ a o p ∷ ds) (differ a′ o′ p′ ∷ ds′) g g′ h =
-    three a a′
+one_list f [] [] g g' h = refl
+one_list f [] (differ a o p ∷ ds) g g' h = nowhere (sides o p) (h a ∙ listed_here a a o p ds refl)
+one_list f (differ a o p ∷ ds) [] g g' h = nowhere (sides o p) (sym (h a) ∙ listed_here a a o p ds refl)
+one_list f (differ a o p ∷ ds) (differ a' o' p' ∷ ds') g g' h =
+    three a a'
     (λ l.
     nowhere (sides o p)
-    (sym (listed-below a a′ (differ a′ o′ p′ ∷ ds′) (omega arith, g′ .1) l) ∙ sym (h a) ∙ listed-here a a o p ds refl))
-    (λ e. same-start a a′ o p o′ p′ ds ds′ e (g .1) (g′ .1) h (λ k m. one-list (suc a) ds ds′ (g .1) k m))
+    (sym (listed_below a a' (differ a' o' p' ∷ ds') (omega arith, g'.1) l) ∙ sym (h a) ∙ listed_here a a o p ds refl))
+    (λ e. same_start a a' o p o' p' ds ds' e g.1 g'.1 h (λ k m. one_list (suc a) ds ds' g.1 k m))
     (λ l.
-    nowhere (sides o′ p′)
-    (sym (listed-below a′ a (differ a o p ∷ ds) (omega arith, g .1) l) ∙ h a′ ∙ listed-here a′ a′ o′ p′ ds′ refl))
+    nowhere (sides o' p')
+    (sym (listed_below a' a (differ a o p ∷ ds) (omega arith, g.1) l) ∙ h a' ∙ listed_here a' a' o' p' ds' refl))
 
-pub lists-one : (S T : List ByteWrite) (ds ds′ : List Difference) → Lists S T ds → Lists S T ds′ → ds ≡ ds′
-lists-one S T ds ds′ a b = one-list 0 ds ds′ (a .ascends) (b .ascends) (λ x. a .each x ∙ sym (b .each x))
+pub lists-one : (S T : List ByteWrite) (ds ds' : List Difference) → Lists S T ds → Lists S T ds' → ds ≡ ds'
+lists-one S T ds ds' a b = one_list 0 ds ds' a.ascends b.ascends (λ x. a.each x ∙ sym (b.each x))
 
-pub differing-one : (s t : List ℕ) (ds ds′ : List Difference) → Differing s t ds → Differing s t ds′ → ds ≡ ds′
-differing-one s t ds ds′ a b =
-    let eS = patch-one (a .one) (b .one) s (a .first) (b .first) in
-    let eT = patch-one (a .two) (b .two) t (a .second) (b .second) in
-    let w : Lists (b .one) (b .two) ds =
-    subst (λ (z : List ByteWrite). Lists (b .one) z ds) eT (subst (λ (z : List ByteWrite). Lists z (a .two) ds) eS (a .lists)) in
-    lists-one (b .one) (b .two) ds ds′ w (b .lists)
+pub differing-one : (s t : List ℕ) (ds ds' : List Difference) → Differing s t ds → Differing s t ds' → ds ≡ ds'
+differing-one s t ds ds' a b =
+    let eS = patch-one a.one b.one s a.first b.first in
+    let eT = patch-one a.two b.two t a.second b.second in
+    let w : Lists b.one b.two ds =
+    subst (λ (z : List ByteWrite). Lists b.one z ds) eT (subst (λ (z : List ByteWrite). Lists z a.two ds) eS a.lists) in
+    lists-one b.one b.two ds ds' w b.lists

@@ -1,8 +1,7 @@
 -- Document 02 (v)'s number and values for each answer. Assumes nothing.
-use Prim.Native.Nat.{ℕ}
-use mathlib.Core.List.{List, [], _∷_}
-use Rattle·comparing·specs.specs.declared.Compared.{Compared}
-use Rattle·comparing·specs.specs.declared.Compared.the-variants.{Done, NoRoom, FirstBad, SecondBad}
+use Rattle.std.specs.Prelude.{ℕ, List, [], ◌∷◌}
+use Rattle.comparing.specs.declared.Compared.{Compared}
+use Rattle.comparing.specs.declared.Compared.TheVariants.{Done, NoRoom, FirstBad, SecondBad}
 
 -- "Done is number 0"; "refuse with 9 if either isn't a patch"; "too short a list gets 8"
 abbrev pub compared_number : Compared → ℕ

@@ -1,12 +1,8 @@
 -- What differs between two sets of byte writes: document 02 (v), "list, by ascending address, each address where they differ, and for
 -- each side "not written" or the byte". Assumes nothing.
-use Prim.Native.Nat.{ℕ, suc, _≤_}
-use mathlib.Core.Bool.{Bool, true, false, cond}
-use mathlib.Core.List.{List, [], _∷_}
-use mathlib.Core.Option.{Option, none, some}
-use mathlib.Core.Path.{_≡_}
-use lib.Dec.{eqb}
-use Rattle·writes.specs.Sets.{ByteWrite, lookup}
+use Rattle.std.specs.Prelude.{ℕ, suc, ◌≤◌, Bool, true, false, cond, List, [], ◌∷◌, ◌≡◌, eqb}
+use Rattle.std.proofs.Math.Option.{Option, none, some}
+use Rattle.writes.specs.Sets.{ByteWrite, lookup}
 
 -- both sides at an address: "not written" is none
 pub data Sides : Type 0 where

@@ -1,9 +1,8 @@
 -- Document 01's whole example compared with another patch. Proved in proofs/Examples.antt. Assumes nothing.
-use Prim.Native.Nat.{ℕ}
-use mathlib.Core.List.{List, [], _∷_}
-use Rattle·writes.specs.Examples.{example_patch}
-use Rattle·comparing·specs.specs.Comparing.{ComparedTo}
-use Rattle·comparing·specs.specs.declared.Compared.the-variants.{Done}
+use Rattle.std.specs.Prelude.{ℕ, List, [], ◌∷◌}
+use Rattle.writes.specs.Examples.{example_patch}
+use Rattle.comparing.specs.Comparing.{ComparedTo}
+use Rattle.comparing.specs.declared.Compared.TheVariants.{Done}
 
 -- a run of A1 and A2 at 1000h, where the example has A1 and A3, and A4 at 1005h
 abbrev pub other_patch : List ℕ

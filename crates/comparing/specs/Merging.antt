@@ -1,24 +1,19 @@
 -- What serves the contracts of the code's own functions: two sets walked side by side, and where each side stands. Assumes nothing.
-use Prim.Native.Nat.{ℕ, zero, suc, _+_, _-_, _*_, _^_, _≤_}
-use mathlib.Core.Bool.{Bool, false, cond}
-use mathlib.Core.List.{List, [], _∷_, _++_}
-use mathlib.Core.Option.{Option, none, some}
-use mathlib.Core.Path.{_≡_}
-use lib.Dec.{eqb, ltb}
-use lib.ListN.{length, take, drop, get_or, set}
-use Rattle·endian.specs.LittleEndian.{Bytes, le_val}
-use Rattle·writes.specs.Sets.{ByteWrite, write, Run, writes_at, writes_of}
-use Rattle·writes.specs.Sizes.{max_runs}
-use Rattle·writes.specs.Encoding.{PatchOf}
-use Rattle·reading.specs.Reader.{whole}
-use Rattle·reading.specs.Stops.{runs_in}
-use Rattle·reading.specs.declared.Cursor.{Cursor}
-use Rattle·reading.proofs.Loops.{rest}
-use Rattle·patch.specs.Placing.{set_of}
-use Rattle·comparing·specs.specs.Differences.{Difference, differ}
-use Rattle·comparing·specs.specs.Comparing.{side_number}
-use Rattle·comparing·specs.specs.declared.fronts.Front.{Front}
-use Rattle·comparing·specs.specs.declared.fronts.Stretch.{Stretch}
+use Rattle.std.specs.Prelude.{ℕ, zero, suc, ◌+◌, ◌-◌, ◌*◌, ◌^◌, ◌≤◌, Bool, false, cond, List, [], ◌∷◌, ◌++◌, ◌≡◌, eqb, ltb, length, take, drop, get_or, set}
+use Rattle.std.proofs.Math.Option.{Option, none, some}
+use Rattle.endian.specs.LittleEndian.{Bytes, le_val}
+use Rattle.writes.specs.Sets.{ByteWrite, write, Run, writes_at, writes_of}
+use Rattle.writes.specs.Sizes.{max_runs}
+use Rattle.writes.specs.Encoding.{PatchOf}
+use Rattle.reading.specs.Reader.{whole}
+use Rattle.reading.specs.Stops.{runs_in}
+use Rattle.reading.specs.declared.Cursor.{Cursor}
+use Rattle.reading.proofs.Loops.{rest}
+use Rattle.patch.specs.Placing.{set_of}
+use Rattle.comparing.specs.Differences.{Difference, differ}
+use Rattle.comparing.specs.Comparing.{side_number}
+use Rattle.comparing.specs.declared.fronts.Front.{Front}
+use Rattle.comparing.specs.declared.fronts.Stretch.{Stretch}
 
 -- ---- two sets side by side
 
@@ -85,15 +80,15 @@ Ends s c = (rs : List Run) × (e : ℕ) × (rest s c ≡ whole rs e)
 
 -- what is left of a side: the run's part, and the runs behind it
 unfoldable pub left_of : List ℕ → Front → List ByteWrite
-left_of s f = writes_at (f .address) (take (f .left) (drop (f .at) s)) ++ writes_of (runs_in (rest s (f .cursor)))
+left_of s f = writes_at f.address (take f.left (drop f.at s)) ++ writes_of (runs_in (rest s f.cursor))
 
 -- the run's part stands in the string, and passes no 2^64; without one there are no runs behind it
 pub record Fit (s : List ℕ) (f : Front) : Type 0 where
-  pub stands : f .at + f .left ≤ length s
-  pub top : f .address + f .left ≤ 2 ^ 64
-  pub few : f .cursor .runs ≤ max_runs
-  pub ends : Ends s (f .cursor)
-  pub last : f .left ≡ 0 → runs_in (rest s (f .cursor)) ≡ []
+  pub stands : f.at + f.left ≤ length s
+  pub top : f.address + f.left ≤ 2 ^ 64
+  pub few : f.cursor.runs ≤ max_runs
+  pub ends : Ends s f.cursor
+  pub last : f.left ≡ 0 → runs_in (rest s f.cursor) ≡ []
 
 -- at the run that a cursor comes to
 pub record Fronted (s : List ℕ) (c : Cursor) (r : Front) : Type 0 where
@@ -108,16 +103,16 @@ pub record Started (s : List ℕ) (r : Front) : Type 0 where
 -- k bytes of the run's part further
 pub record Skipped (s : List ℕ) (f : Front) (k : ℕ) (r : Front) : Type 0 where
   pub fit : Fit s r
-  pub same : left_of s f ≡ writes_at (f .address) (take k (drop (f .at) s)) ++ left_of s r
+  pub same : left_of s f ≡ writes_at f.address (take k (drop f.at s)) ++ left_of s r
 
 -- which bytes come next: the first's alone, up to where the second starts; the second's alone; or both from the same address
 pub data Cut (f g : Front) (r : Stretch) : Type 0 where
-  firsts : r .address ≡ f .address → r .one ≡ r .len → r .two ≡ 0 → r .len ≤ f .left → (r .len ≡ 0 → f .left + g .left ≡ 0)
-      → (1 ≤ g .left → f .address + r .len ≤ g .address) → Cut f g r
-  others : r .address ≡ g .address → r .one ≡ 0 → r .two ≡ r .len → r .len ≤ g .left → 1 ≤ r .len
-      → (1 ≤ f .left → g .address + r .len ≤ f .address) → Cut f g r
-  both : r .address ≡ f .address → f .address ≡ g .address → r .one ≡ r .len → r .two ≡ r .len → r .len ≤ f .left → r .len ≤ g .left
-      → 1 ≤ r .len → Cut f g r
+  firsts : r.address ≡ f.address → r.one ≡ r.len → r.two ≡ 0 → r.len ≤ f.left → (r.len ≡ 0 → f.left + g.left ≡ 0)
+      → (1 ≤ g.left → f.address + r.len ≤ g.address) → Cut f g r
+  others : r.address ≡ g.address → r.one ≡ 0 → r.two ≡ r.len → r.len ≤ g.left → 1 ≤ r.len
+      → (1 ≤ f.left → g.address + r.len ≤ f.address) → Cut f g r
+  both : r.address ≡ f.address → f.address ≡ g.address → r.one ≡ r.len → r.two ≡ r.len → r.len ≤ f.left → r.len ≤ g.left
+      → 1 ≤ r.len → Cut f g r
 
 -- ---- two patches
 

@@ -1,33 +1,29 @@
 -- What is promised of comparing, beside the contract of `compare`. Each has its proof in proofs/Statements.antt. A byte string is a list
 -- of numbers below 256. Assumes nothing.
-use Prim.Native.Nat.{ℕ, _+_, _*_, _≤_, _<_}
-use mathlib.Core.List.{List, [], _∷_}
-use mathlib.Core.Logic.{_↔_}
-use mathlib.Core.Option.{Option, some}
-use mathlib.Core.Path.{_≡_}
-use lib.ListN.{length, get_or}
-use Rattle·endian.specs.LittleEndian.{Bytes}
-use Rattle·writes.specs.Sets.{ByteWrite, lookup}
-use Rattle·patch.specs.Judging.{judged}
-use Rattle·patch.specs.Answers.{judged_number}
-use Rattle·comparing·specs.specs.Differences.{sides, Difference, differ, listed_at, Lists}
-use Rattle·comparing·specs.specs.Comparing.{side_number, numbers_of, Differing, ComparedTo}
-use Rattle·comparing·specs.specs.Answers.{compared_number, compared_numbers}
-use Rattle·comparing·specs.specs.declared.Compared.{Compared}
+use Rattle.std.specs.Prelude.{ℕ, ◌+◌, ◌*◌, ◌≤◌, ◌<◌, List, [], ◌∷◌, ◌↔◌, ◌≡◌, length, get_or}
+use Rattle.std.proofs.Math.Option.{Option, some}
+use Rattle.endian.specs.LittleEndian.{Bytes}
+use Rattle.writes.specs.Sets.{ByteWrite, lookup}
+use Rattle.patch.specs.Judging.{judged}
+use Rattle.patch.specs.Answers.{judged_number}
+use Rattle.comparing.specs.Differences.{sides, Difference, differ, listed_at, Lists}
+use Rattle.comparing.specs.Comparing.{side_number, numbers_of, Differing, ComparedTo}
+use Rattle.comparing.specs.Answers.{compared_number, compared_numbers}
+use Rattle.comparing.specs.declared.Compared.{Compared}
 
 -- for every input exactly one answer and one list
 abbrev pub OneOutcome : Type 0
 OneOutcome =
     (s t l : List ℕ) → Bytes s → Bytes t
     → (r : Compared)
-    × (l′ : List ℕ)
-    × ComparedTo s t l r l′
-    × ((r₁ : Compared) (l₁ : List ℕ) → ComparedTo s t l r₁ l₁ → (r₁ ≡ r) × (l₁ ≡ l′))
+    × (l' : List ℕ)
+    × ComparedTo s t l r l'
+    × ((r₁ : Compared) (l₁ : List ℕ) → ComparedTo s t l r₁ l₁ → (r₁ ≡ r) × (l₁ ≡ l'))
 
 -- "No refusal writes to the caller's difference list"
 abbrev pub RefusalKeepsList : Type 0
 RefusalKeepsList =
-    (s t l : List ℕ) (r : Compared) (l′ : List ℕ) → ComparedTo s t l r l′ → (compared_number r ≡ 0 → ⊥) → l′ ≡ l
+    (s t l : List ℕ) (r : Compared) (l' : List ℕ) → ComparedTo s t l r l' → (compared_number r ≡ 0 → ⊥) → l' ≡ l
 
 -- "each address where they differ, and for each side "not written" or the byte": an address is listed exactly when the two sets'
 -- lookups differ there, with just these values
@@ -38,7 +34,7 @@ ListsEach =
 
 -- the list is determined by the strings
 abbrev pub OneList : Type 0
-OneList = (s t : List ℕ) (ds ds′ : List Difference) → Differing s t ds → Differing s t ds′ → ds ≡ ds′
+OneList = (s t : List ℕ) (ds ds' : List Difference) → Differing s t ds → Differing s t ds' → ds ≡ ds'
 
 -- "Nothing differs exactly when the strings are equal."
 abbrev pub NothingDiffers : Type 0
@@ -60,7 +56,7 @@ OtherWayRound = (s t : List ℕ) (ds : List Difference) → Differing s t ds →
 -- "later calls that read patches judge alike" (document 01); "say which (the first when both are bad)", in the numbers that leave the call
 abbrev pub JudgesAlike : Type 0
 JudgesAlike =
-    (s t l : List ℕ) → Bytes s → Bytes t → (r : Compared) (l′ : List ℕ) → ComparedTo s t l r l′
+    (s t l : List ℕ) → Bytes s → Bytes t → (r : Compared) (l' : List ℕ) → ComparedTo s t l r l'
     → (((compared_number r ≡ 9) × (compared_numbers r ≡ 0 ∷ 0 ∷ 0 ∷ 0 ∷ 0 ∷ [])) ↔ (judged_number (judged s) ≡ 9))
     × (((compared_number r ≡ 9) × (compared_numbers r ≡ 1 ∷ 0 ∷ 0 ∷ 0 ∷ 0 ∷ []))
     ↔ ((judged_number (judged s) ≡ 0) × (judged_number (judged t) ≡ 9)))
@@ -68,7 +64,7 @@ JudgesAlike =
 -- of two patches: 0 exactly when the list has room, 8 exactly when it hasn't, and either way the number of entries
 abbrev pub CountsEntries : Type 0
 CountsEntries =
-    (s t l : List ℕ) (ds : List Difference) → Differing s t ds → (r : Compared) (l′ : List ℕ) → ComparedTo s t l r l′
+    (s t l : List ℕ) (ds : List Difference) → Differing s t ds → (r : Compared) (l' : List ℕ) → ComparedTo s t l r l'
     → ((compared_number r ≡ 0) ↔ (3 * length ds ≤ length l))
     × ((compared_number r ≡ 8) ↔ (length l < 3 * length ds))
     × (compared_numbers r ≡ 0 ∷ 0 ∷ length ds ∷ 0 ∷ 0 ∷ [])

@@ -1,13 +1,13 @@
 // Where each of two patches stands while both are walked, and which bytes come next.
-ghost use mathlib.Core.Path.{_≡_};
-ghost use Prim.Native.Nat.{_-_, _≤_};
-ghost use Rattle·writes.specs.Sizes.{max_runs};
-ghost use Rattle·comparing·specs.specs.Merging.{Ends, Fit, Fronted, Skipped, Cut};
-use reading::Cursor;
-use reading::Step;
+ghost use Rattle.std.specs.Prelude.{◌≡◌, ◌-◌, ◌≤◌};
+ghost use Rattle.writes.specs.Sizes.{max_runs};
+ghost use Rattle.comparing.specs.Merging.{Ends, Fit, Fronted, Skipped, Cut};
+
+use reading::{Cursor, Step};
 
 // What is left of a run: the address of its next byte, that byte's index and how many there are; and the cursor behind the run. With
 // none left there is no run behind it.
+#[derive(Drop)]
 pub struct Front {
     pub address: u64,
     pub at: usize,
@@ -16,6 +16,7 @@ pub struct Front {
 }
 
 // The next `len` addresses, from `address` on: how many of the first's bytes and of the second's stand there, all or none.
+#[derive(Drop)]
 pub struct Stretch {
     pub address: u64,
     pub len: usize,
@@ -25,8 +26,8 @@ pub struct Stretch {
 
 // The run that the cursor comes to.
 pub(crate) fn front_at(s: &[u8], c: Cursor) -> Front
-    requires { ⌜ (c .runs ≤ max_runs) × Ends (now s) c ⌝ }
-    ensures { λ r. ⌜ Fronted (now (s .entry)) c r ⌝ }
+    requires { (c.runs ≤ max_runs) × Ends s.now c }
+    ensures { Fronted s.now c result }
 {
     let w = reader::next_run(s, c);
     match w {
@@ -58,8 +59,8 @@ pub(crate) fn front_at(s: &[u8], c: Cursor) -> Front
 
 // Behind the next k bytes.
 pub(crate) fn skip(s: &[u8], f: Front, k: usize) -> Front
-    requires { ⌜ Fit (now s) f × (k ≤ f .left) ⌝ }
-    ensures { λ r. ⌜ Skipped (now (s .entry)) f k r ⌝ }
+    requires { Fit s.now f × (k ≤ f.left) }
+    ensures { Skipped s.now f k result }
 {
     let left = f.left;
     let cursor = f.cursor;
@@ -76,7 +77,7 @@ pub(crate) fn skip(s: &[u8], f: Front, k: usize) -> Front
 
 // The lower of two numbers.
 fn least(n: usize, d: u64) -> usize
-    ensures { λ r. ⌜ r ≡ n - (n - d) ⌝ }
+    ensures { result ≡ n - (n - d) }
 {
     if d < n as u64 {
         return d as usize;
@@ -86,7 +87,7 @@ fn least(n: usize, d: u64) -> usize
 
 // Which bytes come next; none when nothing is left.
 pub(crate) fn next_stretch(f: Front, g: Front) -> Stretch
-    ensures { λ r. ⌜ Cut f g r ⌝ }
+    ensures { Cut f g result }
 {
     let a = f.address;
     let b = g.address;

@@ -2,26 +2,21 @@
 mod fronts;
 mod parts;
 
-ghost use mathlib.Core.Path.{_≡_};
-ghost use Prim.Native.Nat.{_*_, _≤_};
-ghost use lib.ListN.{length};
-ghost use lib.Dec.{eqb};
-ghost use Rattle·patch.specs.Judging.{judged};
-ghost use Rattle·patch.specs.Answers.{judged_number};
-ghost use Rattle·patch.specs.Placing.{set_of};
-ghost use Rattle·comparing·specs.specs.Comparing.{IsPatch, ComparedTo};
-ghost use Rattle·comparing·specs.specs.Merging.{differences, put, lacking, Patches, Started};
-use fronts::Front;
-use fronts::front_at;
-use fronts::next_stretch;
-use fronts::skip;
-use parts::differing;
-use parts::list_part;
+ghost use Rattle.std.specs.Prelude.{◌≡◌, ◌*◌, ◌≤◌, length, eqb};
+ghost use Rattle.patch.specs.Judging.{judged};
+ghost use Rattle.patch.specs.Answers.{judged_number};
+ghost use Rattle.patch.specs.Placing.{set_of};
+ghost use Rattle.comparing.specs.Comparing.{IsPatch, ComparedTo};
+ghost use Rattle.comparing.specs.Merging.{differences, put, lacking, Patches, Started};
+
+use fronts::{Front, front_at, next_stretch, skip};
+use parts::{differing, list_part};
 use patch::Judged;
 use reading::Cursor;
 
 // What comparing answers: done with the number of entries, verdict 8 with the number of entries needed, or verdict 9 and which of the
 // two strings is no patch, the first when both aren't.
+#[derive(Drop)]
 pub enum Compared {
     Done { entries: usize },
     NoRoom { needed: usize },
@@ -34,7 +29,7 @@ pub enum Compared {
 const ALWAYS_ROOM: usize = 6144;
 
 fn is_patch(s: &[u8]) -> bool
-    ensures { λ r. ⌜ r ≡ eqb (judged_number (judged (now (s .entry)))) 0 ⌝ }
+    ensures { result ≡ eqb (judged_number (judged s.now)) 0 }
 {
     let j = patch::judge(s);
     match j {
@@ -44,8 +39,8 @@ fn is_patch(s: &[u8]) -> bool
 }
 
 fn first_front(s: &[u8]) -> Front
-    requires { ⌜ IsPatch (now s) ⌝ }
-    ensures { λ r. ⌜ Started (now (s .entry)) r ⌝ }
+    requires { IsPatch s.now }
+    ensures { Started s.now result }
 {
     front_at(
         s,
@@ -60,8 +55,8 @@ fn first_front(s: &[u8]) -> Front
 
 // The number of entries.
 fn count(first: &[u8], second: &[u8]) -> usize
-    requires { ⌜ Patches (now first) (now second) ⌝ }
-    ensures { λ r. ⌜ r ≡ length (differences (set_of (now (first .entry))) (set_of (now (second .entry)))) ⌝ }
+    requires { Patches first.now second.now }
+    ensures { result ≡ length (differences (set_of first.now) (set_of second.now)) }
 {
     let mut f = first_front(first);
     let mut g = first_front(second);
@@ -82,8 +77,8 @@ fn count(first: &[u8], second: &[u8]) -> usize
 
 // How many entries there are where a list of so many numbers is too short for them, else 0.
 fn lacks(first: &[u8], second: &[u8], numbers: usize) -> usize
-    requires { ⌜ Patches (now first) (now second) ⌝ }
-    ensures { λ r. ⌜ r ≡ lacking numbers (length (differences (set_of (now (first .entry))) (set_of (now (second .entry))))) ⌝ }
+    requires { Patches first.now second.now }
+    ensures { result ≡ lacking numbers (length (differences (set_of first.now) (set_of second.now))) }
 {
     if ALWAYS_ROOM <= numbers {
         return 0;
@@ -97,11 +92,10 @@ fn lacks(first: &[u8], second: &[u8], numbers: usize) -> usize
 
 // All entries, put into the list from its front on. Answers the index behind them.
 fn fill(list: &mut [u64], first: &[u8], second: &[u8]) -> usize
-    requires { ⌜ Patches (now first) (now second)
-        × (3 * length (differences (set_of (now first)) (set_of (now second))) ≤ length (now list)) ⌝ }
-    ensures { λ r. ⌜ r ≡ 3 * length (differences (set_of (now (first .entry))) (set_of (now (second .entry)))) ⌝ }
-    ensures { λ _.
-        ⌜ now (list .exit) ≡ put 0 (now (list .entry)) (differences (set_of (now (first .entry))) (set_of (now (second .entry)))) ⌝ }
+    requires { Patches first.now second.now
+        × (3 * length (differences (set_of first.now) (set_of second.now)) ≤ length list.old) }
+    ensures value { result ≡ 3 * length (differences (set_of first.now) (set_of second.now)) }
+    ensures list_after { list.new ≡ put 0 list.old (differences (set_of first.now) (set_of second.now)) }
 {
     let mut f = first_front(first);
     let mut g = first_front(second);
@@ -121,7 +115,7 @@ fn fill(list: &mut [u64], first: &[u8], second: &[u8]) -> usize
 
 // Lists each address where two patches differ.
 pub fn compare(first: &[u8], second: &[u8], list: &mut [u64]) -> Compared
-    ensures { λ r. ⌜ ComparedTo (now (first .entry)) (now (second .entry)) (now (list .entry)) r (now (list .exit)) ⌝ }
+    ensures { ComparedTo first.now second.now list.old result list.new }
 {
     if !is_patch(first) {
         return Compared::FirstBad;

@@ -1,14 +1,12 @@
 // Two parts side by side, byte by byte; an empty one stands for what isn't written.
-ghost use mathlib.Core.Path.{_≡_};
-ghost use Prim.Native.Nat.{ℕ, _+_, _*_, _^_, _≤_, _<_};
-ghost use lib.ListN.{length};
-ghost use Rattle·comparing·specs.specs.Merging.{side_at, entry_at, same_eight, zipped, put, Parts, Room};
+ghost use Rattle.std.specs.Prelude.{◌≡◌, ℕ, ◌+◌, ◌*◌, ◌^◌, ◌≤◌, ◌<◌, length};
+ghost use Rattle.comparing.specs.Merging.{side_at, entry_at, same_eight, zipped, put, Parts, Room};
 
 // 256 stands for "not written".
 pub const NOT_WRITTEN: u64 = 256;
 
 fn side(p: &[u8], i: usize) -> u64
-    ensures { λ r. ⌜ r ≡ side_at (now (p .entry)) i ⌝ }
+    ensures { result ≡ side_at p.now i }
 {
     if i < p.len() {
         return endian::wide(p[i]);
@@ -18,8 +16,8 @@ fn side(p: &[u8], i: usize) -> u64
 
 // At how many of the next `len` addresses the parts differ.
 pub(crate) fn differing(p: &[u8], q: &[u8], len: usize) -> usize
-    requires { ⌜ Parts (now p) (now q) len ⌝ }
-    ensures { λ r. ⌜ ((a : ℕ) → r ≡ length (zipped a (now (p .entry)) (now (q .entry)))) ⌝ }
+    requires { Parts p.now q.now len }
+    ensures { (a : ℕ) → result ≡ length (zipped a p.now q.now) }
 {
     let mut i: usize = 0;
     let mut n: usize = 0;
@@ -36,9 +34,9 @@ pub(crate) fn differing(p: &[u8], q: &[u8], len: usize) -> usize
 
 // The entry of index i, where the parts differ there, put into the list at index k; the index behind it.
 fn list_byte(list: &mut [u64], k: usize, address: u64, p: &[u8], q: &[u8], i: usize) -> usize
-    requires { ⌜ (k + 3 * length (entry_at address (now p) (now q) i) ≤ length (now list)) × (address + i < 2 ^ 64) ⌝ }
-    ensures { λ r. ⌜ (now (list .exit) ≡ put k (now (list .entry)) (entry_at address (now (p .entry)) (now (q .entry)) i))
-        × (r ≡ k + 3 * length (entry_at address (now (p .entry)) (now (q .entry)) i)) ⌝ }
+    requires { (k + 3 * length (entry_at address p.now q.now i) ≤ length list.old) × (address + i < 2 ^ 64) }
+    ensures { (list.new ≡ put k list.old (entry_at address p.now q.now i))
+        × (result ≡ k + 3 * length (entry_at address p.now q.now i)) }
 {
     let one = side(p, i);
     let other = side(q, i);
@@ -53,8 +51,8 @@ fn list_byte(list: &mut [u64], k: usize, address: u64, p: &[u8], q: &[u8], i: us
 
 // Whether eight bytes from index i on are there, and the same.
 fn same_eight(p: &[u8], q: &[u8], i: usize) -> bool
-    requires { ⌜ (i ≤ length (now p)) × (length (now q) ≡ length (now p)) ⌝ }
-    ensures { λ r. ⌜ r ≡ same_eight (now (p .entry)) (now (q .entry)) i ⌝ }
+    requires { (i ≤ length p.now) × (length q.now ≡ length p.now) }
+    ensures { result ≡ same_eight p.now q.now i }
 {
     if p.len() - i < 8 {
         return false;
@@ -65,9 +63,9 @@ fn same_eight(p: &[u8], q: &[u8], i: usize) -> bool
 // The entries of two parts of one length, put into the list from index `at` on; the index behind them. Equal bytes are passed eight at a
 // time.
 fn list_both(list: &mut [u64], at: usize, address: u64, p: &[u8], q: &[u8]) -> usize
-    requires { ⌜ Room (now list) at address (now p) (now q) (length (now p)) × (length (now q) ≡ length (now p)) ⌝ }
-    ensures { λ r. ⌜ (now (list .exit) ≡ put at (now (list .entry)) (zipped address (now (p .entry)) (now (q .entry))))
-        × (r ≡ at + 3 * length (zipped address (now (p .entry)) (now (q .entry)))) ⌝ }
+    requires { Room list.old at address p.now q.now (length p.now) × (length q.now ≡ length p.now) }
+    ensures { (list.new ≡ put at list.old (zipped address p.now q.now))
+        × (result ≡ at + 3 * length (zipped address p.now q.now)) }
 {
     let len = p.len();
     let mut i: usize = 0;
@@ -85,9 +83,9 @@ fn list_both(list: &mut [u64], at: usize, address: u64, p: &[u8], q: &[u8]) -> u
 
 // The same of any two parts, byte by byte.
 fn list_sides(list: &mut [u64], at: usize, address: u64, p: &[u8], q: &[u8], len: usize) -> usize
-    requires { ⌜ Room (now list) at address (now p) (now q) len ⌝ }
-    ensures { λ r. ⌜ (now (list .exit) ≡ put at (now (list .entry)) (zipped address (now (p .entry)) (now (q .entry))))
-        × (r ≡ at + 3 * length (zipped address (now (p .entry)) (now (q .entry)))) ⌝ }
+    requires { Room list.old at address p.now q.now len }
+    ensures { (list.new ≡ put at list.old (zipped address p.now q.now))
+        × (result ≡ at + 3 * length (zipped address p.now q.now)) }
 {
     let mut i: usize = 0;
     let mut k = at;
@@ -116,9 +114,9 @@ pub(crate) fn list_part(
     q: &[u8],
     len: usize,
 ) -> usize
-    requires { ⌜ Room (now list) at address (now p) (now q) len ⌝ }
-    ensures { λ r. ⌜ (now (list .exit) ≡ put at (now (list .entry)) (zipped address (now (p .entry)) (now (q .entry))))
-        × (r ≡ at + 3 * length (zipped address (now (p .entry)) (now (q .entry)))) ⌝ }
+    requires { Room list.old at address p.now q.now len }
+    ensures { (list.new ≡ put at list.old (zipped address p.now q.now))
+        × (result ≡ at + 3 * length (zipped address p.now q.now)) }
 {
     if p.len() == q.len() {
         return list_both(list, at, address, p, q);

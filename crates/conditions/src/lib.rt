@@ -1,22 +1,21 @@
 // The tests of verdicts 1, 4, 5 and 6, each by what it looks at.
-ghost use mathlib.Core.Path.{_≡_};
-ghost use mathlib.Core.Bool.{not};
-ghost use mathlib.Core.List.{List};
-ghost use Rattle·writes.specs.Elements.{Element};
-ghost use Rattle·verdicts.specs.Verdicts.{one_of_five, length_ok, flag_on, illegal, some_active, stack};
+ghost use Rattle.std.specs.Prelude.{◌≡◌, not, List};
+ghost use Rattle.writes.specs.Elements.{Element};
+ghost use Rattle.verdicts.specs.Verdicts.{one_of_five, length_ok, flag_on, illegal, some_active, stack};
+
 use encoding::Feature;
 use verdicts::Flags;
 
 // Whether VB is one of the five.
 pub fn one_of_five(vb: usize) -> bool
-    ensures { λ r. ⌜ r ≡ one_of_five vb ⌝ }
+    ensures { result ≡ one_of_five vb }
 {
     (vb == 16) | (vb == 32) | (vb == 64) | (vb == 128) | (vb == 256)
 }
 
 // Whether VB is a length of the machine's edition, in its mode. The five are lengths in each.
 pub fn length_ok(vb: usize, early: bool, streaming: bool) -> bool
-    ensures { λ r. ⌜ r ≡ length_ok early streaming vb ⌝ }
+    ensures { result ≡ length_ok early streaming vb }
 {
     if one_of_five(vb) {
         return true;
@@ -26,7 +25,7 @@ pub fn length_ok(vb: usize, early: bool, streaming: bool) -> bool
 
 // Whether a feature is off.
 pub fn is_off(flags: Flags, feature: Feature) -> bool
-    ensures { λ r. ⌜ r ≡ not (flag_on flags feature) ⌝ }
+    ensures { result ≡ not (flag_on flags feature) }
 {
     match feature {
         Feature::SVE => !flags.sve,
@@ -37,7 +36,7 @@ pub fn is_off(flags: Flags, feature: Feature) -> bool
 
 // Whether a store of a class with this feature is illegal.
 pub fn is_illegal(flags: Flags, feature: Feature) -> bool
-    ensures { λ r. ⌜ r ≡ illegal flags feature ⌝ }
+    ensures { result ≡ illegal flags feature }
 {
     match feature {
         Feature::SVE => flags.streaming & !flags.fa64,
@@ -48,7 +47,7 @@ pub fn is_illegal(flags: Flags, feature: Feature) -> bool
 
 // Whether the stack check refuses a store, by whether its base is SP and it has active elements.
 pub fn is_stack(flags: Flags, sp: u64, on_stack: bool, some: bool) -> bool
-    ensures { λ r. ⌜ ((es : List Element) → some ≡ some_active es → r ≡ stack flags sp «on_stack» es) ⌝ }
+    ensures { (es : List Element) → some ≡ some_active es → result ≡ stack flags sp on_stack es }
 {
     on_stack & flags.sp_check & (sp % 16 != 0) & (some | flags.sp_check_none_active)
 }

@@ -1,11 +1,8 @@
 -- Elements put over memory at equal distances. For the contracts of the code's own functions. Assumes nothing.
-use Prim.Native.Nat.{ℕ, zero, suc, _+_, _-_, _*_, _≤_}
-use mathlib.Core.List.{List}
-use mathlib.Core.Path.{_≡_}
-use lib.ListN.{length, take, drop}
-use Rattle·endian.specs.Overwriting.{overwritten}
-use Rattle·elements.specs.Accesses.{strided_element}
-use Rattle·elements.specs.declared.StridedAccess.{StridedAccess}
+use Rattle.std.specs.Prelude.{ℕ, zero, suc, ◌+◌, ◌-◌, ◌*◌, ◌≤◌, List, ◌≡◌, length, take, drop}
+use Rattle.endian.specs.Overwriting.{overwritten}
+use Rattle.elements.specs.Accesses.{strided_element}
+use Rattle.elements.specs.declared.StridedAccess.{StridedAccess}
 
 -- the bytes p of n elements from number k on, the first at offset `at`, each `gap` bytes behind the one before
 unfoldable pub spread_over : (ℕ → List ℕ) → ℕ → ℕ → ℕ → List ℕ → ℕ → List ℕ
@@ -26,11 +23,11 @@ pub record Room (src mem : List ℕ) (at n gap size : ℕ) : Type 0 where
   pub source : n * gap ≤ length src + (gap - size)
 
 -- they are copied and counted
-pub record Copies (src mem : List ℕ) (at n gap size elements bytes : ℕ) (mem′ : List ℕ) : Type 0 where
+pub record Copies (src mem : List ℕ) (at n gap size elements bytes : ℕ) (mem' : List ℕ) : Type 0 where
   pub counted : elements ≡ n
   pub weighed : bytes ≡ n * size
-  pub same : mem′ ≡ spread_from src gap size n 0 mem at
+  pub same : mem' ≡ spread_from src gap size n 0 mem at
 
 -- the elements of a strided store
 abbrev pub spread : StridedAccess → ℕ → List ℕ → ℕ → ℕ → List ℕ → ℕ → List ℕ
-spread s vb z = spread_over (λ k. strided_element s vb z k .bytes) (s .gap)
+spread s vb z = spread_over (λ k. (strided_element s vb z k).bytes) s.gap

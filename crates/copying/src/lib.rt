@@ -1,19 +1,17 @@
 // A strided store's active elements, copied one by one out of their registers to memory.
-ghost use mathlib.Core.Path.{_≡_};
-ghost use Prim.Native.Nat.{_+_, _-_, _*_, _≤_, _<_};
-ghost use lib.ListN.{length};
-ghost use Rattle·elements.specs.Machine.{register};
-ghost use Rattle·elements.specs.Accesses.{StridedSound};
-ghost use Rattle·copying·specs.specs.Spreading.{Room, Copies, spread};
-use elements::Counts;
-use elements::StridedAccess;
+ghost use Rattle.std.specs.Prelude.{◌≡◌, ◌+◌, ◌-◌, ◌*◌, ◌≤◌, ◌<◌, length};
+ghost use Rattle.elements.specs.Machine.{register};
+ghost use Rattle.elements.specs.Accesses.{StridedSound};
+ghost use Rattle.copying.specs.Spreading.{Room, Copies, spread};
+
+use elements::{Counts, StridedAccess};
 
 // The bytes of register r of a strided store.
 fn row_of(s: StridedAccess, vb: usize, z: &[u8], r: usize) -> &[u8]
-    requires { ⌜ StridedSound s vb ⌝ }
-    requires { ⌜ length (now z) ≡ 32 * vb ⌝ }
-    requires { ⌜ r < s .nreg ⌝ }
-    ensures { λ q. ⌜ now q ≡ register vb (now (z .entry)) (s .first + r * s .stride) ⌝ }
+    requires strided_sound { StridedSound s vb }
+    requires z_len { length z.now ≡ 32 * vb }
+    requires r_lt_nreg { r < s.nreg }
+    ensures { result.now ≡ register vb z.now (s.first + r * s.stride) }
 {
     elements::register_of(z, vb, s.first + r * s.stride)
 }
@@ -21,9 +19,8 @@ fn row_of(s: StridedAccess, vb: usize, z: &[u8], r: usize) -> &[u8]
 // Copies n elements of `size` bytes, `gap` bytes from one to the next in both slices, from offset `at` on: each one's place in memory is
 // lent to the byte writer, and it is counted.
 fn copy_each(memory: &mut [u8], at: usize, src: &[u8], n: usize, gap: usize, size: usize) -> Counts
-    requires { ⌜ Room (now src) (now memory) at n gap size ⌝ }
-    ensures { λ r.
-        ⌜ Copies (now (src .entry)) (now (memory .entry)) at n gap size (r .elements) (r .bytes) (now (memory .exit)) ⌝ }
+    requires { Room src.now memory.old at n gap size }
+    ensures { Copies src.now memory.old at n gap size result.elements result.bytes memory.new }
 {
     let mut elements: u64 = 0;
     let mut bytes: u64 = 0;
@@ -50,9 +47,8 @@ fn copy_elements(
     gap: usize,
     size: usize,
 ) -> Counts
-    requires { ⌜ Room (now src) (now memory) at n gap size ⌝ }
-    ensures { λ r.
-        ⌜ Copies (now (src .entry)) (now (memory .entry)) at n gap size (r .elements) (r .bytes) (now (memory .exit)) ⌝ }
+    requires { Room src.now memory.old at n gap size }
+    ensures { Copies src.now memory.old at n gap size result.elements result.bytes memory.new }
 {
     if gap == size {
         if size == 8 {
@@ -76,12 +72,12 @@ fn copy_elements(
 
 // Copies the active elements, one register after the other, and counts them. The first one's place is at offset `at`.
 pub fn copy_active(s: StridedAccess, vb: usize, z: &[u8], memory: &mut [u8], at: usize) -> Counts
-    requires { ⌜ StridedSound s vb ⌝ }
-    requires { ⌜ length (now z) ≡ 32 * vb ⌝ }
-    requires { ⌜ (length (now memory) ≤ 65536) × (at + (s .high - s .low) * s .gap ≤ length (now memory) + (s .gap - s .size)) ⌝ }
-    ensures { λ r. ⌜ r .elements ≡ s .high - s .low ⌝ }
-    ensures { λ r. ⌜ r .bytes ≡ (s .high - s .low) * s .size ⌝ }
-    ensures { λ _. ⌜ now (memory .exit) ≡ spread s vb (now (z .entry)) (s .high - s .low) (s .low) (now (memory .entry)) at ⌝ }
+    requires strided_sound { StridedSound s vb }
+    requires z_len { length z.now ≡ 32 * vb }
+    requires memory_len_bound { (length memory.old ≤ 65536) × (at + (s.high - s.low) * s.gap ≤ length memory.old + (s.gap - s.size)) }
+    ensures elements_value { result.elements ≡ s.high - s.low }
+    ensures bytes_value { result.bytes ≡ (s.high - s.low) * s.size }
+    ensures memory_after { memory.new ≡ spread s vb z.now (s.high - s.low) s.low memory.old at }
 {
     let nreg = s.nreg;
     let mut elements: u64 = 0;

@@ -1,29 +1,24 @@
 // A strided store's counter: which elements are active under it.
-ghost use mathlib.Core.Path.{_≡_};
-ghost use mathlib.Core.Bool.{false};
-ghost use mathlib.Core.List.{[]};
-ghost use Prim.Native.Nat.{_+_, _-_, _*_, _^_, _≤_, _<_};
-ghost use lib.ListN.{length};
-ghost use Rattle·encoding.specs.Encoding.{class_for, refused};
-ghost use Rattle·elements.specs.Machine.{machine};
-ghost use Rattle·elements.specs.Counter.{counter_of, lowest_set, highest, count_in};
-ghost use Rattle·elements.specs.Accesses.{border_of, low_of, high_of, range_for};
+ghost use Rattle.std.specs.Prelude.{◌≡◌, false, [], ◌+◌, ◌-◌, ◌*◌, ◌^◌, ◌≤◌, ◌<◌, length};
+ghost use Rattle.encoding.specs.Encoding.{class_for, refused};
+ghost use Rattle.elements.specs.Machine.{machine};
+ghost use Rattle.elements.specs.Counter.{counter_of, lowest_set, highest, count_in};
+ghost use Rattle.elements.specs.Accesses.{border_of, low_of, high_of, range_for};
+
 use elements::Range;
-use encoding::Number;
-use encoding::Store;
-use encoding::StridedFields;
+use encoding::{Number, Store, StridedFields};
 
 // The counter of a store with this Pc.
 fn counter_of(p: &[u8], vb: usize, pc: u8) -> u64
-    requires { ⌜ (pc < 8) × (16 ≤ vb) × (vb ≤ 256) × (length (now p) ≡ 2 * vb) ⌝ }
-    ensures { λ r. ⌜ r ≡ counter_of (machine vb [] 0 [] (now (p .entry))) pc ⌝ }
+    requires { (pc < 8) × (16 ≤ vb) × (vb ≤ 256) × (length p.now ≡ 2 * vb) }
+    ensures { result ≡ counter_of (machine vb [] 0 [] p.now) pc }
 {
     endian::le16(elements::register_of(p, vb / 8, 8 + pc as usize), 0)
 }
 
 // The index of a counter's lowest set bit among its low four.
 pub fn lowest_set(v: u64) -> u32
-    ensures { λ r. ⌜ (r ≡ lowest_set v) × (r < 4) ⌝ }
+    ensures { (result ≡ lowest_set v) × (result < 4) }
 {
     if v % 2 == 1 {
         return 0;
@@ -39,18 +34,18 @@ pub fn lowest_set(v: u64) -> u32
 
 // A counter's count, with the index of its lowest set bit: what stands above that, up to bit log2(4 * vb).
 pub fn counted(vb: usize, v: u64, shift: u32) -> u64
-    requires { ⌜ (4 * vb ≡ 2 ^ highest vb) × (vb ≤ 256) ⌝ }
-    requires { ⌜ (shift ≡ lowest_set v) × (shift < 4) ⌝ }
-    ensures { λ r. ⌜ r ≡ count_in vb v ⌝ }
+    requires vb_value { (4 * vb ≡ 2 ^ highest vb) × (vb ≤ 256) }
+    requires shift_value { (shift ≡ lowest_set v) × (shift < 4) }
+    ensures { result ≡ count_in vb v }
 {
     (v & (8 * vb as u64 - 1)) >> (shift + 1)
 }
 
 // How many of the elements that lie 2^g bytes apart have a mask bit before the counter's count, with the index of its lowest set bit.
 fn border_of(vb: usize, v: u64, shift: u32, g: u32) -> usize
-    requires { ⌜ (4 * vb ≡ 2 ^ highest vb) × (vb ≤ 256) ⌝ }
-    requires { ⌜ (shift ≡ lowest_set v) × (shift < 4) × (g < 4) ⌝ }
-    ensures { λ r. ⌜ r ≡ border_of vb v g ⌝ }
+    requires vb_value { (4 * vb ≡ 2 ^ highest vb) × (vb ≤ 256) }
+    requires shift_value { (shift ≡ lowest_set v) × (shift < 4) × (g < 4) }
+    ensures { result ≡ border_of vb v g }
 {
     let units = elements::scaled(counted(vb, v, shift), shift);
     ((units + ((1u64 << g) - 1)) >> g) as usize
@@ -58,7 +53,7 @@ fn border_of(vb: usize, v: u64, shift: u32, g: u32) -> usize
 
 // The higher of two numbers.
 fn higher(x: u32, y: u32) -> u32
-    ensures { λ r. ⌜ r ≡ x + (y - x) ⌝ }
+    ensures { result ≡ x + (y - x) }
 {
     if x < y {
         return y;
@@ -68,7 +63,7 @@ fn higher(x: u32, y: u32) -> u32
 
 // The active ones of n under the counter, by its border, with their distance and how many of them a register has.
 fn range_of(v: u64, border: usize, n: usize, gap: usize, per: usize) -> Range
-    ensures { λ r. ⌜ (r .low ≡ low_of v border n) × (r .high ≡ high_of v border n) × (r .gap ≡ gap) × (r .per ≡ per) ⌝ }
+    ensures { (result.low ≡ low_of v border n) × (result.high ≡ high_of v border n) × (result.gap ≡ gap) × (result.per ≡ per) }
 {
     if v % 16 == 0 {
         return Range {
@@ -97,9 +92,9 @@ fn range_of(v: u64, border: usize, n: usize, gap: usize, per: usize) -> Range
 
 // The active elements of a strided store.
 pub fn range_for(f: StridedFields, vb: usize, p: &[u8]) -> Range
-    requires { ⌜ refused (Store.Strided f) ≡ false ⌝ }
-    requires { ⌜ (16 ≤ vb) × (vb ≤ 256) × (length (now p) ≡ 2 * vb) × (4 * vb ≡ 2 ^ highest vb) ⌝ }
-    ensures { λ r. ⌜ r ≡ range_for (machine vb [] 0 [] (now (p .entry))) (class_for (Store.Strided f)) f ⌝ }
+    requires f_value { refused (Store.Strided f) ≡ false }
+    requires le_vb { (16 ≤ vb) × (vb ≤ 256) × (length p.now ≡ 2 * vb) × (4 * vb ≡ 2 ^ highest vb) }
+    ensures { result ≡ range_for (machine vb [] 0 [] p.now) (class_for (Store.Strided f)) f }
 {
     let counter = counter_of(p, vb, f.pc);
     let shift = lowest_set(counter);

@@ -1,30 +1,31 @@
 -- Runs cut out of memory that the elements were written to are those of their net effect. Assumes nothing.
-use mathlib.Core.Path.{_≡_, refl, sym, ap, _∙_, subst}
-use Prim.Native.Nat.{ℕ, _+_, _-_, _^_, _≤_}
-use mathlib.Core.List.{List, [], _∷_, _++_}
-use mathlib.Core.Option.{Option, none, some, or_else, Option·get_or}
+use mathlib.Core.Path.{◌≡◌, refl, sym, ap, ◌∙◌, subst}
+use Prim.Native.Nat.{ℕ, ◌+◌, ◌-◌, ◌^◌, ◌≤◌}
+use mathlib.Core.List.{List, [], ◌∷◌, ◌++◌}
+use mathlib.Core.Option
+use mathlib.Core.Option.{Option, none, some, or_else}
 use native.Mathlib.Omega.{arith}
 use lib.ListN.{length, take, drop, get_or}
 use lib.Seq.{get_or-take, get_or-drop}
-use Rattle·endian.specs.LittleEndian.{Bytes}
-use Rattle·writes.specs.Sets.{ByteWrite, IsSet, Run, runs, lookup, writes_at, writes_of, Apart, overlay}
-use Rattle·writes.specs.Encoding.{trailer, encode_runs, encode}
-use Rattle·writes.specs.Elements.{Element, InSpace, InWindow, net_effect, written}
-use Rattle·endian.specs.Overwriting.{overwritten}
-use Rattle·endian.proofs.Order.{two, absurdly}
-use Rattle·endian.proofs.LittleEndian.{bytes-take, bytes-drop, bytes-append}
-use Rattle·writes.proofs.Runs.{runs-writes_of, ascending-writes_of, ascending-more, length-trailer}
-use Rattle·writes.proofs.Lookup.{lookup-append, lookup-writes_at-below, lookup-writes_at-past, lookup-writes_at-at, ext-lookup}
-use Rattle·writes.proofs.Net.{ascending-splice_all, net-in-window}
-use Rattle·writes.proofs.Overlay.{get_or-overlay, length-overlay, overlay-nil, overlay-splice_all}
-use Rattle·stretches.specs.Intervals.{Interval, interval, Separate}
-use Rattle·stretches.specs.Intervals.{total}
-use Rattle·stretches.proofs.Covering.{covered, is_some}
-use Rattle·cutting·proofs.proofs.Putting.{over-start}
-use Rattle·cutting·proofs.proofs.Shapes.{Shape, some-shape, apart-shape}
-use Rattle·cutting·specs.specs.Cutting.{part, cut, Fits}
-use Rattle·cutting·proofs.proofs.Copying.{length-of-part}
-use Rattle·cutting·proofs.proofs.Composing.{length-cut-runs}
+use Rattle.endian.specs.LittleEndian.{Bytes}
+use Rattle.writes.specs.Sets.{ByteWrite, IsSet, Run, runs, lookup, writes_at, writes_of, Apart, overlay}
+use Rattle.writes.specs.Encoding.{trailer, encode_runs, encode}
+use Rattle.writes.specs.Elements.{Element, InSpace, InWindow, net_effect, written}
+use Rattle.endian.specs.Overwriting.{overwritten}
+use Rattle.endian.proofs.Order.{two, absurdly}
+use Rattle.endian.proofs.LittleEndian.{bytes_take, bytes_drop, bytes-append}
+use Rattle.writes.proofs.Runs.{runs-writes_of, ascending-writes_of, ascending-more, length-trailer}
+use Rattle.writes.proofs.Lookup.{lookup-append, lookup-writes_at-below, lookup-writes_at-past, lookup-writes_at-at, ext-lookup}
+use Rattle.writes.proofs.Net.{ascending-splice_all, net-in-window}
+use Rattle.writes.proofs.Overlay.{get_or-overlay, length-overlay, overlay-nil, overlay-splice_all}
+use Rattle.stretches.specs.Intervals.{Interval, interval, Separate}
+use Rattle.stretches.specs.Intervals.{total}
+use Rattle.stretches.proofs.Covering.{covered, is_some}
+use Rattle.cutting.proofs.Putting.{over-start}
+use Rattle.cutting.proofs.Shapes.{Shape, some-shape, apart-shape}
+use Rattle.cutting.specs.Cutting.{part, cut, Fits}
+use Rattle.cutting.proofs.Copying.{length-of-part}
+use Rattle.cutting.proofs.Composing.{length-cut-runs}
 
 -- ---- runs cut out of memory
 
@@ -33,17 +34,17 @@ module _ (W : ℕ) (mem : List ℕ) where
   unfolding cut part
   cut-shape f [] b a = tt
   cut-shape f (interval s n ∷ I) b a =
-      (refl, length-of-part mem s n (a .2), bytes-take n (drop s mem) (bytes-drop s mem b), cut-shape (s + n + 1) I b (a .3))
+      (refl, length-of-part mem s n a.2, bytes_take n (drop s mem) (bytes_drop s mem b), cut-shape (s + n + 1) I b a.3)
 
   -- no byte, or memory's
   abbrev Own : ℕ → Option ℕ → Type 0
   Own x none = Unit {0}
   Own x (some b) = b ≡ get_or mem (x - W) 0
 
-  own-or : (x : ℕ) (o o′ : Option ℕ) → Own x o → Own x o′ → Own x (or_else o o′)
+  own-or : (x : ℕ) (o o' : Option ℕ) → Own x o → Own x o' → Own x (or_else o o')
   unfolding or_else
-  own-or x none o′ h h′ = h′
-  own-or x (some b) o′ h h′ = h
+  own-or x none o' h h' = h'
+  own-or x (some b) o' h h' = h
 
   own-run : (x s n : ℕ) → s + n ≤ length mem → Own x (lookup x (writes_at (W + s) (part mem s n)))
   unfolding part
@@ -68,14 +69,14 @@ module _ (W : ℕ) (mem : List ℕ) where
   own-cut x f (interval s n ∷ I) a =
       let q : List ByteWrite = writes_at (W + s) (part mem s n) in
       subst (Own x) (sym (lookup-append x q (writes_of (cut W mem I))))
-      (own-or x (lookup x q) (lookup x (writes_of (cut W mem I))) (own-run x s n (a .2)) (own-cut x (s + n + 1) I (a .3)))
+      (own-or x (lookup x q) (lookup x (writes_of (cut W mem I))) (own-run x s n a.2) (own-cut x (s + n + 1) I a.3))
 
   -- two answers that are memory's, or none, alike
-  own-same : (x : ℕ) (o o′ : Option ℕ) → Own x o → Own x o′ → is_some o ≡ is_some o′ → o ≡ o′
-  own-same x none none h h′ e = refl
-  own-same x none (some b) h h′ e = absurdly cc
-  own-same x (some b) none h h′ e = absurdly cc
-  own-same x (some b) (some b′) h h′ e = ap some (h ∙ sym h′)
+  own_same : (x : ℕ) (o o' : Option ℕ) → Own x o → Own x o' → is_some o ≡ is_some o' → o ≡ o'
+  own_same x none none h h' e = refl
+  own_same x none (some b) h h' e = absurdly cc
+  own_same x (some b) none h h' e = absurdly cc
+  own_same x (some b) (some b') h h' e = ap some (h ∙ sym h')
 
 -- ---- the law: any set in the window that memory holds, and intervals that cover just its addresses
 
@@ -90,7 +91,7 @@ module _ (W : ℕ) (mem : List ℕ) (I : List Interval) (S : List ByteWrite) (t 
       sym (runs-writes_of (W + 0) rs G)
       ∙ ap runs
       (ext-lookup 0 (writes_of rs) S (ascending-more (W + 0) 0 (writes_of rs) (omega arith) (ascending-writes_of (W + 0) rs G)) set
-      (λ x. own-same W mem x (lookup x (writes_of rs)) (lookup x S) (own-cut W mem x 0 I a) (holds x) (some-shape W x I rs s ∙ same x)))
+      (λ x. own_same W mem x (lookup x (writes_of rs)) (lookup x S) (own-cut W mem x 0 I a) (holds x) (some-shape W x I rs s ∙ same x)))
 
   pub cut-encoded : encode_runs (cut W mem I) ≡ encode S
   unfolding encode
@@ -100,24 +101,24 @@ module _ (W : ℕ) (mem : List ℕ) (I : List Interval) (S : List ByteWrite) (t 
 
 fits-in-window : (W L : ℕ) (es : List Element) → Fits W L es → InWindow W L es
 fits-in-window W L [] h = tt
-fits-in-window W L (e ∷ es) h = (h .0, h .1, fits-in-window W L es (h .3))
+fits-in-window W L (e ∷ es) h = (h.0, h.1, fits-in-window W L es h.3)
 
 fits-in-space : (W L : ℕ) (es : List Element) → W + L ≤ 2 ^ 64 → Fits W L es → InSpace es
 fits-in-space W L [] t h = tt
 fits-in-space W L (e ∷ es) t h =
-    let h1 : e .address + length (e .bytes) ≤ W + L = h .1 in
-    (omega arith, h .2, fits-in-space W L es t (h .3))
+    let h1 : e.address + length e.bytes ≤ W + L = h.1 in
+    (omega arith, h.2, fits-in-space W L es t h.3)
 
 bytes-written : (W L : ℕ) (mem : List ℕ) (es : List Element) → Bytes mem → Fits W L es → Bytes (written W mem es)
 unfolding written overwritten
 bytes-written W L mem [] b h = b
 bytes-written W L mem (e ∷ es) b h =
-    let at : ℕ = e .address - W in
-    let p : List ℕ = e .bytes in
+    let at : ℕ = e.address - W in
+    let p : List ℕ = e.bytes in
     bytes-written W L (overwritten mem at p) es
-    (bytes-append (take at mem) (p ++ drop (at + length p) mem) (bytes-take at mem b)
-    (bytes-append p (drop (at + length p) mem) (h .2) (bytes-drop (at + length p) mem b)))
-    (h .3)
+    (bytes-append (take at mem) (p ++ drop (at + length p) mem) (bytes_take at mem b)
+    (bytes-append p (drop (at + length p) mem) h.2 (bytes_drop (at + length p) mem b)))
+    h.3
 
 -- ---- the law for elements: intervals that cover just the addresses that they write, and memory after they were written in turn
 
@@ -140,7 +141,7 @@ module _ (W : ℕ) (mem : List ℕ) (es : List Element) (I : List Interval) (t :
           let v : W + i ≡ x = omega (arith, w) in
           sym
           (ap (λ (m : List ℕ). get_or m i 0) (sym laid) ∙ get_or-overlay W mem (net_effect es) i (omega (arith, w))
-          ∙ ap (λ (o : Option ℕ). Option·get_or o (get_or mem i 0)) (ap (λ (z : ℕ). lookup z (net_effect es)) v ∙ e))
+          ∙ ap (λ (o : Option ℕ). Option.get_or o (get_or mem i 0)) (ap (λ (z : ℕ). lookup z (net_effect es)) v ∙ e))
 
   pub made-runs : encode_runs (cut W (written W mem es) I) ≡ encode (net_effect es)
   made-runs =
@@ -158,7 +159,7 @@ module _ (W : ℕ) (mem : List ℕ) (es : List Element) (I : List Interval) (t :
       ∙ ap (λ (n : ℕ). total I + n) (length-trailer z)
 
   -- the whole buffer
-  pub made-buffer : (mem′ out out′ : List ℕ) → mem′ ≡ written W mem es → out′ ≡ overwritten out 0 (encode_runs (cut W mem′ I))
-      → out′ ≡ encode (net_effect es) ++ drop (length (encode (net_effect es))) out
-  made-buffer mem′ out out′ em e =
+  pub made-buffer : (mem' out out' : List ℕ) → mem' ≡ written W mem es → out' ≡ overwritten out 0 (encode_runs (cut W mem' I))
+      → out' ≡ encode (net_effect es) ++ drop (length (encode (net_effect es))) out
+  made-buffer mem' out out' em e =
       e ∙ ap (overwritten out 0) (ap (λ (m : List ℕ). encode_runs (cut W m I)) em ∙ made-runs) ∙ over-start out (encode (net_effect es))

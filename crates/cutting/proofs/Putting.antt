@@ -1,15 +1,15 @@
 -- A head and a trailer put over a buffer, and a head as two numbers. Assumes nothing.
-use mathlib.Core.Path.{_≡_, refl, sym, ap, ap₂, _∙_}
-use Prim.Native.Nat.{ℕ, zero, suc, _+_, _-_, _*_, _/_, _%_, _^_, _≤_, _<_}
-use mathlib.Core.List.{List, [], _∷_, _++_}
-use native.Mathlib.Nat.{pow-suc, pow-succ', pow-zero, mul-assoc}
+use mathlib.Core.Path.{◌≡◌, refl, sym, ap, ap₂, ◌∙◌}
+use Prim.Native.Nat.{ℕ, zero, suc, ◌+◌, ◌-◌, ◌*◌, ◌/◌, ◌%◌, ◌^◌, ◌≤◌, ◌<◌}
+use mathlib.Core.List.{List, [], ◌∷◌, ◌++◌}
+use native.Mathlib.Nat.{pow-suc, pow-succ', pow-zero, mul_assoc}
 use native.Mathlib.Omega.{arith}
 use lib.ListN.{length, drop}
-use Rattle·endian.specs.LittleEndian.{le_bytes}
-use Rattle·writes.specs.Encoding.{trailer}
-use Rattle·endian.specs.Overwriting.{overwritten}
-use Rattle·endian.proofs.Putting.{over-next}
-use Rattle·cutting·specs.specs.Cutting.{head_bytes}
+use Rattle.endian.specs.LittleEndian.{le_bytes}
+use Rattle.writes.specs.Encoding.{trailer}
+use Rattle.endian.specs.Overwriting.{overwritten}
+use Rattle.endian.proofs.Putting.{over-next}
+use Rattle.cutting.specs.Cutting.{head_bytes}
 
 -- ---- a head and a trailer, part by part
 
@@ -34,19 +34,19 @@ over-start Y p = let w : 0 + length p ≡ length p = omega arith in ap (λ (z : 
 -- ---- a head as two numbers
 
 -- the bytes of a number, the lower j and the upper k
-le-parts : (j k x y z : ℕ) → x < 256 ^ j → z ≡ x + 256 ^ j * y → le_bytes (j + k) z ≡ le_bytes j x ++ le_bytes k y
+le_parts : (j k x y z : ℕ) → x < 256 ^ j → z ≡ x + 256 ^ j * y → le_bytes (j + k) z ≡ le_bytes j x ++ le_bytes k y
 unfolding le_bytes
-le-parts zero k x y z h e =
+le_parts zero k x y z h e =
     let w : 0 + k ≡ k = omega arith in
     let o : 256 ^ 0 * y ≡ 1 * y = ap (λ (m : ℕ). m * y) (pow-zero 256) in
     let v : z ≡ y = omega (arith, pow-zero 256) in
     ap₂ le_bytes w v
-le-parts (suc j) k x y z h e =
+le_parts (suc j) k x y z h e =
     let w : suc j + k ≡ suc (j + k) = omega arith in
-    let o : 256 ^ suc j * y ≡ 256 * (256 ^ j * y) = ap (λ (m : ℕ). m * y) (pow-succ' 256 j) ∙ mul-assoc 256 (256 ^ j) y in
+    let o : 256 ^ suc j * y ≡ 256 * (256 ^ j * y) = ap (λ (m : ℕ). m * y) (pow-succ' 256 j) ∙ mul_assoc 256 (256 ^ j) y in
     let v : z % 256 ≡ x % 256 = omega arith in
     ap (λ (i : ℕ). le_bytes i z) w
-    ∙ ap₂ _∷_ v (le-parts j k (x / 256) y (z / 256) (omega (arith, pow-suc 256 j)) (omega arith))
+    ∙ ap₂ ◌∷◌ v (le_parts j k (x / 256) y (z / 256) (omega (arith, pow-suc 256 j)) (omega arith))
 
 -- x is the mark and the start's lower six bytes; y its upper two, h, and the length
 pub head-numbers : (s n h x y : ℕ) → s < 2 ^ 64 → s < 2 ^ 48 * (h + 1) → x + 2 ^ 64 * h ≡ 0x5250 + 65536 * s → y ≡ h + 65536 * n
@@ -54,8 +54,8 @@ pub head-numbers : (s n h x y : ℕ) → s < 2 ^ 64 → s < 2 ^ 48 * (h + 1) →
 unfolding head_bytes le_bytes
 head-numbers s n h x y a b e f =
     let l : ℕ = s - 2 ^ 48 * h in
-    ap₂ _++_ (le-parts 2 6 0x5250 l x (omega arith) (omega arith)) (le-parts 2 2 h n y (omega arith) f)
-    ∙ ap (λ (t : List ℕ). le_bytes 2 0x5250 ++ (t ++ le_bytes 2 n)) (sym (le-parts 6 2 l h s (omega arith) (omega arith)))
+    ap₂ ◌++◌ (le_parts 2 6 0x5250 l x (omega arith) (omega arith)) (le_parts 2 2 h n y (omega arith) f)
+    ∙ ap (λ (t : List ℕ). le_bytes 2 0x5250 ++ (t ++ le_bytes 2 n)) (sym (le_parts 6 2 l h s (omega arith) (omega arith)))
 
 -- the upper two and the length fit a number of eight bytes
 pub tail-small : (s b : ℕ) → s < 2 ^ 64 → b ≤ 2 ^ 32 → s / 2 ^ 48 + b < 2 ^ 64

@@ -1,17 +1,17 @@
 -- Intervals that lie apart, one after another. Assumes nothing.
-use mathlib.Core.Path.{_≡_, sym, ap, _∙_}
-use Prim.Native.Nat.{ℕ, zero, suc, _+_, _-_, _*_, _≤_, _<_}
-use mathlib.Core.List.{[], _∷_}
+use mathlib.Core.Path.{◌≡◌, sym, ap, ◌∙◌}
+use Prim.Native.Nat.{ℕ, zero, suc, ◌+◌, ◌-◌, ◌*◌, ◌≤◌, ◌<◌}
+use mathlib.Core.List.{[], ◌∷◌}
 use native.Mathlib.Nat.{suc-mul}
 use native.Mathlib.Omega.{arith}
-use Rattle·stretches.specs.Intervals.{interval, Separate, total}
-use Rattle·cutting·specs.specs.Cutting.{spaced}
+use Rattle.stretches.specs.Intervals.{interval, Separate, total}
+use Rattle.cutting.specs.Cutting.{spaced}
 
 module _ (gap size : ℕ) where
-  pub spaced-next : (p p′ n t : ℕ) → t < n → p′ ≡ p + gap
-      → spaced p gap size (n - t) ≡ interval p size ∷ spaced p′ gap size (n - (t + 1))
+  pub spaced-next : (p p' n t : ℕ) → t < n → p' ≡ p + gap
+      → spaced p gap size (n - t) ≡ interval p size ∷ spaced p' gap size (n - (t + 1))
   unfolding spaced
-  spaced-next p p′ n t h e =
+  spaced-next p p' n t h e =
       let w : n - t ≡ suc (n - (t + 1)) = omega arith in
       ap (spaced p gap size) w ∙ ap (λ (q : ℕ). interval p size ∷ spaced q gap size (n - (t + 1))) (sym e)
 
@@ -39,7 +39,7 @@ module _ (gap size : ℕ) where
   pub spaced-in : (L f p n : ℕ) → 1 ≤ n → Separate L f (spaced p gap size n) → p + size ≤ L
   unfolding spaced
   spaced-in L f p zero o a = absurd (omega arith)
-  spaced-in L f p (suc n) o a = a .2
+  spaced-in L f p (suc n) o a = a.2
 
   -- they are separate where a byte lies between each two, and the last ends in the window
   pub spaced-separate : (L f p n : ℕ) → 1 ≤ size → size < gap → f ≤ p → p + n * gap ≤ L + (gap - size) → Separate L f (spaced p gap size n)

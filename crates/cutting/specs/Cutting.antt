@@ -1,14 +1,11 @@
 -- Runs cut out of the window's memory. For the contracts of the code's own functions. Assumes nothing.
-use Prim.Native.Nat.{ℕ, zero, suc, _+_, _≤_}
-use mathlib.Core.Path.{_≡_}
-use mathlib.Core.List.{List, [], _∷_, _++_}
-use lib.ListN.{length, take, drop}
-use Rattle·endian.specs.LittleEndian.{Bytes, le_bytes}
-use Rattle·endian.specs.Overwriting.{overwritten}
-use Rattle·writes.specs.Sets.{Run, run}
-use Rattle·writes.specs.Encoding.{runs_then, trailer, encode_runs}
-use Rattle·writes.specs.Elements.{Element}
-use Rattle·stretches.specs.Intervals.{Interval, interval, Separate, total}
+use Rattle.std.specs.Prelude.{ℕ, zero, suc, ◌+◌, ◌≤◌, ◌≡◌, List, [], ◌∷◌, ◌++◌, length, take, drop}
+use Rattle.endian.specs.LittleEndian.{Bytes, le_bytes}
+use Rattle.endian.specs.Overwriting.{overwritten}
+use Rattle.writes.specs.Sets.{Run, run}
+use Rattle.writes.specs.Encoding.{runs_then, trailer, encode_runs}
+use Rattle.writes.specs.Elements.{Element}
+use Rattle.stretches.specs.Intervals.{Interval, interval, Separate, total}
 
 -- a run's mark, start and length
 unfoldable pub head_bytes : ℕ → ℕ → List ℕ
@@ -47,4 +44,4 @@ pub record Composing (W : ℕ) (mem : List ℕ) (J₀ : List Interval) (out₀ :
 -- elements of bytes in the window of L bytes at W
 abbrev pub Fits : ℕ → ℕ → List Element → Type 0
 Fits W L [] = Unit {0}
-Fits W L (x ∷ xs) = (W ≤ x .address) × (x .address + length (x .bytes) ≤ W + L) × Bytes (x .bytes) × Fits W L xs
+Fits W L (x ∷ xs) = (W ≤ x.address) × (x.address + length x.bytes ≤ W + L) × Bytes x.bytes × Fits W L xs

@@ -1,20 +1,17 @@
 // The patch of stretches in ascending order: heads and trailer, with payloads copied from the memory that was written.
-ghost use mathlib.Core.Path.{_≡_};
-ghost use mathlib.Core.List.{[], _∷_, _++_};
-ghost use Prim.Native.Nat.{_+_, _-_, _%_, _^_, _<_, _≤_};
-ghost use lib.ListN.{length};
-ghost use Rattle·endian.specs.LittleEndian.{le_bytes};
-ghost use Rattle·writes.specs.Encoding.{trailer, encode_runs};
-ghost use Rattle·endian.specs.Overwriting.{overwritten};
-ghost use Rattle·ordering.specs.Keys.{entries};
-ghost use Rattle·stretches.specs.Intervals.{interval, Separate, total};
-ghost use Rattle·stretches.specs.Stretches.{merged, Ordered};
-ghost use Rattle·cutting·specs.specs.Cutting.{head_bytes, part, run_bytes, cut, spaced, Composing};
+ghost use Rattle.std.specs.Prelude.{◌≡◌, [], ◌∷◌, ◌++◌, ◌+◌, ◌-◌, ◌%◌, ◌^◌, ◌<◌, ◌≤◌, length};
+ghost use Rattle.endian.specs.LittleEndian.{le_bytes};
+ghost use Rattle.writes.specs.Encoding.{trailer, encode_runs};
+ghost use Rattle.endian.specs.Overwriting.{overwritten};
+ghost use Rattle.ordering.specs.Keys.{entries};
+ghost use Rattle.stretches.specs.Intervals.{interval, Separate, total};
+ghost use Rattle.stretches.specs.Stretches.{merged, Ordered};
+ghost use Rattle.cutting.specs.Cutting.{head_bytes, part, run_bytes, cut, spaced, Composing};
 
 // A mark: 50h and its second byte.
 fn put_mark(out: &mut [u8], at: usize, second: u8)
-    requires { ⌜ at + 2 ≤ length (now out) ⌝ }
-    ensures { λ _. ⌜ now (out .exit) ≡ overwritten (now (out .entry)) at (0x50 ∷ second ∷ []) ⌝ }
+    requires { at + 2 ≤ length out.old }
+    ensures { out.new ≡ overwritten out.old at (0x50 ∷ second ∷ []) }
 {
     out[at] = 0x50;
     out[at + 1] = second;
@@ -22,8 +19,8 @@ fn put_mark(out: &mut [u8], at: usize, second: u8)
 
 // What follows the last run: the mark and the number of runs.
 fn put_trailer(out: &mut [u8], at: usize, runs: usize)
-    requires { ⌜ at + 4 ≤ length (now out) ⌝ }
-    ensures { λ _. ⌜ now (out .exit) ≡ overwritten (now (out .entry)) at (trailer runs) ⌝ }
+    requires { at + 4 ≤ length out.old }
+    ensures { out.new ≡ overwritten out.old at (trailer runs) }
 {
     put_mark(out, at, 0x45);
     endian::put16(out, at + 2, runs as u64);
@@ -31,8 +28,8 @@ fn put_trailer(out: &mut [u8], at: usize, runs: usize)
 
 // A run's mark, start and length.
 fn put_head(out: &mut [u8], at: usize, start: u64, len: u64)
-    requires { ⌜ at + 12 ≤ length (now out) ⌝ }
-    ensures { λ _. ⌜ now (out .exit) ≡ overwritten (now (out .entry)) at (head_bytes start len) ⌝ }
+    requires { at + 12 ≤ length out.old }
+    ensures { out.new ≡ overwritten out.old at (head_bytes start len) }
 {
     put_mark(out, at, 0x52);
     endian::put64(out, at + 2, start);
@@ -41,8 +38,8 @@ fn put_head(out: &mut [u8], at: usize, start: u64, len: u64)
 
 // Two bytes of memory from offset p on, put at index `at` as a number.
 fn move2(out: &mut [u8], at: usize, memory: &[u8], p: usize)
-    requires { ⌜ (at + 2 ≤ length (now out)) × (p + 2 ≤ length (now memory)) ⌝ }
-    ensures { λ _. ⌜ now (out .exit) ≡ overwritten (now (out .entry)) at (part (now (memory .entry)) p 2) ⌝ }
+    requires { (at + 2 ≤ length out.old) × (p + 2 ≤ length memory.now) }
+    ensures { out.new ≡ overwritten out.old at (part memory.now p 2) }
 {
     let x = endian::le16(memory, p);
     endian::put16(out, at, x);
@@ -50,8 +47,8 @@ fn move2(out: &mut [u8], at: usize, memory: &[u8], p: usize)
 
 // Eight bytes.
 fn move8(out: &mut [u8], at: usize, memory: &[u8], p: usize)
-    requires { ⌜ (at + 8 ≤ length (now out)) × (p + 8 ≤ length (now memory)) ⌝ }
-    ensures { λ _. ⌜ now (out .exit) ≡ overwritten (now (out .entry)) at (part (now (memory .entry)) p 8) ⌝ }
+    requires { (at + 8 ≤ length out.old) × (p + 8 ≤ length memory.now) }
+    ensures { out.new ≡ overwritten out.old at (part memory.now p 8) }
 {
     let x = endian::le64(memory, p);
     endian::put64(out, at, x);
@@ -60,8 +57,8 @@ fn move8(out: &mut [u8], at: usize, memory: &[u8], p: usize)
 // n bytes of memory from offset p on, put at index `at`. Parts are made only for lengths that one or two moves of a
 // width don't cover.
 fn copy_at(out: &mut [u8], at: usize, memory: &[u8], p: usize, n: usize)
-    requires { ⌜ (1 ≤ n) × (at + n ≤ length (now out)) × (p + n ≤ length (now memory)) ⌝ }
-    ensures { λ _. ⌜ now (out .exit) ≡ overwritten (now (out .entry)) at (part (now (memory .entry)) p n) ⌝ }
+    requires { (1 ≤ n) × (at + n ≤ length out.old) × (p + n ≤ length memory.now) }
+    ensures { out.new ≡ overwritten out.old at (part memory.now p n) }
 {
     if n == 8 {
         move8(out, at, memory, p);
@@ -88,8 +85,8 @@ fn copy_at(out: &mut [u8], at: usize, memory: &[u8], p: usize, n: usize)
 
 // The run from offset a up to b: head and payload.
 fn put_run(out: &mut [u8], at: usize, w: u64, memory: &[u8], a: usize, b: usize)
-    requires { ⌜ (at + 12 + (b - a) ≤ length (now out)) × (a < b) × (b ≤ length (now memory)) × (w + length (now memory) ≤ 2 ^ 64) ⌝ }
-    ensures { λ _. ⌜ now (out .exit) ≡ overwritten (now (out .entry)) at (run_bytes w (now (memory .entry)) a (b - a)) ⌝ }
+    requires { (at + 12 + (b - a) ≤ length out.old) × (a < b) × (b ≤ length memory.now) × (w + length memory.now ≤ 2 ^ 64) }
+    ensures { out.new ≡ overwritten out.old at (run_bytes w memory.now a (b - a)) }
 {
     put_head(out, at, w + a as u64, (b - a) as u64);
     copy_at(out, at + 12, memory, a, b - a);
@@ -98,10 +95,9 @@ fn put_run(out: &mut [u8], at: usize, w: u64, memory: &[u8], a: usize, b: usize)
 // The run of n bytes from offset p on, its head as two numbers, which the compiler puts by a move each: the mark and the
 // start's lower six bytes; its upper two and the length.
 fn put_headed(out: &mut [u8], at: usize, head: u64, tail: u64, memory: &[u8], p: usize, n: usize)
-    requires { ⌜ (1 ≤ n) × (at + 12 + n ≤ length (now out)) × (p + n ≤ length (now memory)) ⌝ }
-    ensures { λ _.
-        ⌜ now (out .exit) ≡ overwritten (now (out .entry)) at
-        ((le_bytes 8 head ++ le_bytes 4 tail) ++ part (now (memory .entry)) p n) ⌝ }
+    requires { (1 ≤ n) × (at + 12 + n ≤ length out.old) × (p + n ≤ length memory.now) }
+    ensures { out.new ≡ overwritten out.old at
+        ((le_bytes 8 head ++ le_bytes 4 tail) ++ part memory.now p n) }
 {
     endian::put64(out, at, head);
     endian::put32(out, at + 8, tail);
@@ -110,12 +106,11 @@ fn put_headed(out: &mut [u8], at: usize, head: u64, tail: u64, memory: &[u8], p:
 
 // The patch of stretches: runs and trailer. Answers its length.
 pub fn compose(w: u64, stretches: &[u32], m: usize, memory: &[u8], out: &mut [u8]) -> usize
-    requires { ⌜ Ordered (now stretches) m (length (now memory)) × (w + length (now memory) ≤ 2 ^ 64)
-        × (total (merged (entries (now stretches) 0 m)) + 4 ≤ length (now out)) ⌝ }
-    ensures { λ r. ⌜ r ≡ total (merged (entries (now (stretches .entry)) 0 m)) + 4 ⌝ }
-    ensures { λ _.
-        ⌜ now (out .exit) ≡ overwritten (now (out .entry)) 0
-        (encode_runs (cut w (now (memory .entry)) (merged (entries (now (stretches .entry)) 0 m)))) ⌝ }
+    requires { Ordered stretches.now m (length memory.now) × (w + length memory.now ≤ 2 ^ 64)
+        × (total (merged (entries stretches.now 0 m)) + 4 ≤ length out.old) }
+    ensures value { result ≡ total (merged (entries stretches.now 0 m)) + 4 }
+    ensures out_after { out.new ≡ overwritten out.old 0
+        (encode_runs (cut w memory.now (merged (entries stretches.now 0 m)))) }
 {
     let mut to = 0;
     let mut runs = 0;
@@ -135,10 +130,9 @@ pub fn compose(w: u64, stretches: &[u32], m: usize, memory: &[u8], out: &mut [u8
 
 // The patch of one run, n bytes from offset a on. Answers its length.
 pub fn compose_one(w: u64, a: usize, n: usize, memory: &[u8], out: &mut [u8]) -> usize
-    requires { ⌜ (1 ≤ n) × (a + n ≤ length (now memory)) × (n + 16 ≤ length (now out)) × (w + length (now memory) ≤ 2 ^ 64) ⌝ }
-    ensures { λ r. ⌜ r ≡ n + 16 ⌝ }
-    ensures { λ _.
-        ⌜ now (out .exit) ≡ overwritten (now (out .entry)) 0 (encode_runs (cut w (now (memory .entry)) (interval a n ∷ []))) ⌝ }
+    requires { (1 ≤ n) × (a + n ≤ length memory.now) × (n + 16 ≤ length out.old) × (w + length memory.now ≤ 2 ^ 64) }
+    ensures value { result ≡ n + 16 }
+    ensures out_after { out.new ≡ overwritten out.old 0 (encode_runs (cut w memory.now (interval a n ∷ []))) }
 {
     put_run(out, 0, w, memory, a, a + n);
     put_trailer(out, n + 12, 1);
@@ -146,6 +140,7 @@ pub fn compose_one(w: u64, a: usize, n: usize, memory: &[u8], out: &mut [u8]) ->
 }
 
 // A patch's length, and how many steps it took.
+#[derive(Drop)]
 pub struct Composed {
     pub length: usize,
     pub steps: usize,
@@ -161,12 +156,11 @@ fn put_apart(
     memory: &[u8],
     out: &mut [u8],
 ) -> Composed
-    requires { ⌜ (1 ≤ size) × (gap ≤ 65536) × (length (now memory) ≤ 65536) × (w + length (now memory) ≤ 2 ^ 64)
-        × (total (spaced first gap size count) + 4 ≤ length (now out)) ⌝ }
-    requires { ⌜ Separate (length (now memory)) 0 (spaced first gap size count) ⌝ }
-    ensures { λ r.
-        ⌜ Composing w (now (memory .entry)) (spaced first gap size count) (now (out .entry)) [] (now (out .exit)) (r .length) (r .steps)
-        × (r .steps ≡ count) ⌝ }
+    requires le_size { (1 ≤ size) × (gap ≤ 65536) × (length memory.now ≤ 65536) × (w + length memory.now ≤ 2 ^ 64)
+        × (total (spaced first gap size count) + 4 ≤ length out.old) }
+    requires separate { Separate (length memory.now) 0 (spaced first gap size count) }
+    ensures { Composing w memory.now (spaced first gap size count) out.old [] out.new result.length result.steps
+        × (result.steps ≡ count) }
 {
     let mut to = 0;
     let mut a = first;
@@ -191,13 +185,12 @@ fn put_near(
     memory: &[u8],
     out: &mut [u8],
 ) -> Composed
-    requires { ⌜ (1 ≤ size) × (gap ≤ 65536) × (length (now memory) ≤ 65536) × (w + length (now memory) ≤ 2 ^ 64)
-        × (total (spaced first gap size count) + 4 ≤ length (now out)) ⌝ }
-    requires { ⌜ Separate (length (now memory)) 0 (spaced first gap size count) ⌝ }
-    requires { ⌜ (1 ≤ count) × ((w + first) % 2 ^ 48 + 2 ^ 17 ≤ 2 ^ 48) ⌝ }
-    ensures { λ r.
-        ⌜ Composing w (now (memory .entry)) (spaced first gap size count) (now (out .entry)) [] (now (out .exit)) (r .length) (r .steps)
-        × (r .steps ≡ count) ⌝ }
+    requires le_size { (1 ≤ size) × (gap ≤ 65536) × (length memory.now ≤ 65536) × (w + length memory.now ≤ 2 ^ 64)
+        × (total (spaced first gap size count) + 4 ≤ length out.old) }
+    requires separate { Separate (length memory.now) 0 (spaced first gap size count) }
+    requires le_count { (1 ≤ count) × ((w + first) % 2 ^ 48 + 2 ^ 17 ≤ 2 ^ 48) }
+    ensures { Composing w memory.now (spaced first gap size count) out.old [] out.new result.length result.steps
+        × (result.steps ≡ count) }
 {
     let start = w + first as u64;
     let tail = start / 0x1_0000_0000_0000 + 0x10000 * size as u64;
@@ -226,12 +219,11 @@ fn put_spaced(
     memory: &[u8],
     out: &mut [u8],
 ) -> Composed
-    requires { ⌜ (1 ≤ size) × (gap ≤ 65536) × (length (now memory) ≤ 65536) × (w + length (now memory) ≤ 2 ^ 64)
-        × (total (spaced first gap size count) + 4 ≤ length (now out)) ⌝ }
-    requires { ⌜ Separate (length (now memory)) 0 (spaced first gap size count) ⌝ }
-    ensures { λ r.
-        ⌜ Composing w (now (memory .entry)) (spaced first gap size count) (now (out .entry)) [] (now (out .exit)) (r .length) (r .steps)
-        × (r .steps ≡ count) ⌝ }
+    requires le_size { (1 ≤ size) × (gap ≤ 65536) × (length memory.now ≤ 65536) × (w + length memory.now ≤ 2 ^ 64)
+        × (total (spaced first gap size count) + 4 ≤ length out.old) }
+    requires separate { Separate (length memory.now) 0 (spaced first gap size count) }
+    ensures { Composing w memory.now (spaced first gap size count) out.old [] out.new result.length result.steps
+        × (result.steps ≡ count) }
 {
     if count == 0 {
         return Composed {
@@ -255,13 +247,12 @@ pub fn compose_spaced(
     memory: &[u8],
     out: &mut [u8],
 ) -> Composed
-    requires { ⌜ (1 ≤ size) × (gap ≤ 65536) × (length (now memory) ≤ 65536) × (w + length (now memory) ≤ 2 ^ 64)
-        × (total (spaced first gap size count) + 4 ≤ length (now out)) ⌝ }
-    requires { ⌜ Separate (length (now memory)) 0 (spaced first gap size count) ⌝ }
-    ensures { λ r. ⌜ (r .length ≡ total (spaced first gap size count) + 4) × (r .steps ≡ count) ⌝ }
-    ensures { λ _.
-        ⌜ now (out .exit) ≡ overwritten (now (out .entry)) 0
-        (encode_runs (cut w (now (memory .entry)) (spaced first gap size count))) ⌝ }
+    requires le_size { (1 ≤ size) × (gap ≤ 65536) × (length memory.now ≤ 65536) × (w + length memory.now ≤ 2 ^ 64)
+        × (total (spaced first gap size count) + 4 ≤ length out.old) }
+    requires separate { Separate (length memory.now) 0 (spaced first gap size count) }
+    ensures length_value { (result.length ≡ total (spaced first gap size count) + 4) × (result.steps ≡ count) }
+    ensures out_after { out.new ≡ overwritten out.old 0
+        (encode_runs (cut w memory.now (spaced first gap size count))) }
 {
     if count == 1 {
         let length = compose_one(w, first, size, memory, out);

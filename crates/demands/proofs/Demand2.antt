@@ -1,23 +1,23 @@
 -- Demand 2. Assumes nothing.
-use mathlib.Core.Path.{_≡_, refl}
-use mathlib.Core.List.{[], _∷_}
-use Rattle·encoding.specs.Classes.{classes}
-use Rattle·encoding.proofs.Statements.{decodes-its-class, undefined-outside, one-class-only, scatter_widths, strided_widths}
-use Rattle·encoding.proofs.Statements.{refused-for-a-cause, encodes_decoded, decodes_encoded}
-use Rattle·encoding.proofs.Numbers.{numbers_from_bits}
-use Rattle·codec.proofs.Statements.{encodes_decoded_numbers, decodes_encoded_numbers, refuses-numbers}
-use Rattle·verdicts.specs.Verdicts.{number}
-use Rattle·verdicts.specs.declared.Refusal.the-variants.{Length, Registers, Window, Undefined, Illegal, Stack, Fault, Overlap, NoRoom}
-use Rattle·verdicts.specs.declared.Verdict.{Verdict}
-use Rattle·verdicts.specs.declared.Verdict.the-variants.{Done, Refused}
-use Rattle·verdicts.proofs.Statements.{table-numbered, table-in-order, table-given-when}
-use Rattle·outcomes.specs.Storing.{numbers}
-use Rattle·demands·specs.specs.Demand2.{StoringReturns, Demand2}
-use Rattle·demands·proofs.proofs.Sources.{element_bytes}
-use Rattle·demands·proofs.proofs.Storing.{lists-the-active, in-ascending-order, byte_by_byte, counts-of-done}
-use Rattle·demands·proofs.proofs.Storing.{storing-decided, fault-given, fault-names-the-lowest}
-use Rattle·demands·proofs.proofs.Strict.{overlap-given, overlap-names-the-lowest}
-use Rattle·demands·proofs.proofs.Applying.{applying-decided, outside-names-the-lowest}
+use mathlib.Core.Path.{◌≡◌, refl}
+use mathlib.Core.List.{[], ◌∷◌}
+use Rattle.encoding.specs.Classes.{classes}
+use Rattle.encoding.proofs.Statements.{decodes-its-class, undefined-outside, one-class-only, scatter_widths, strided_widths}
+use Rattle.encoding.proofs.Statements.{refused-for-a-cause, encodes_decoded, decodes_encoded}
+use Rattle.encoding.proofs.Numbers.{numbers_from_bits}
+use Rattle.codec.proofs.Statements.{encodes_decoded_numbers, decodes_encoded_numbers, refuses-numbers}
+use Rattle.verdicts.specs.Verdicts.{number}
+use Rattle.verdicts.specs.declared.Refusal.TheVariants.{Length, Registers, Window, Undefined, Illegal, Stack, Fault, Overlap, NoRoom}
+use Rattle.verdicts.specs.declared.Verdict.{Verdict}
+use Rattle.verdicts.specs.declared.Verdict.TheVariants.{Done, Refused}
+use Rattle.verdicts.proofs.Statements.{table-numbered, table-in-order, table-given-when}
+use Rattle.outcomes.specs.Storing.{numbers}
+use Rattle.demands.specs.Demand2.{StoringReturns, Demand2}
+use Rattle.demands.proofs.Sources.{element_bytes}
+use Rattle.demands.proofs.Storing.{lists-the-active, in-ascending-order, byte_by_byte, counts-of-done}
+use Rattle.demands.proofs.Storing.{storing-decided, fault-given, fault-names-the-lowest}
+use Rattle.demands.proofs.Strict.{overlap-given, overlap-names-the-lowest}
+use Rattle.demands.proofs.Applying.{applying-decided, outside-names-the-lowest}
 
 storing_returns : StoringReturns
 storing_returns = ((λ n b k t. refl), (λ e a. refl), (λ e a. refl), (λ v p q r. zeros v p q r))

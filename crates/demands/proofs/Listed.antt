@@ -1,17 +1,17 @@
 -- A store's list of active elements: what it has, and the first of it outside a window. Assumes nothing.
-use mathlib.Core.Path.{_≡_, refl, sym, subst}
+use mathlib.Core.Path.{◌≡◌, refl, sym, subst}
 use mathlib.Core.Bool.{Bool, true, false, cond}
-use mathlib.Core.List.{List, _∷_}
+use mathlib.Core.List.{List, ◌∷◌}
 use mathlib.Core.Option.{some}
-use Prim.Native.Nat.{ℕ, zero, suc, _+_, _≤_, _<_}
+use Prim.Native.Nat.{ℕ, zero, suc, ◌+◌, ◌≤◌, ◌<◌}
 use native.Mathlib.Omega.{arith}
 use lib.ListN.{length}
-use Rattle·endian.proofs.Order.{two, absurdly}
-use Rattle·writes.specs.Elements.{Element}
-use Rattle·window.specs.Window.{in_window}
-use Rattle·elements.specs.Elements.{actives}
-use Rattle·verdicts.specs.Verdicts.{first_outside}
-use Rattle·verdicts.specs.Statements.{Listed, here, there}
+use Rattle.endian.proofs.Order.{two, absurdly}
+use Rattle.writes.specs.Elements.{Element}
+use Rattle.window.specs.Window.{in_window}
+use Rattle.elements.specs.Elements.{actives}
+use Rattle.verdicts.specs.Verdicts.{first_outside}
+use Rattle.verdicts.specs.Statements.{Listed, here, there}
 
 -- the first of a list, or one of the others
 split : {X : Type 0} (x y : Element) (ys : List Element) → Listed x (y ∷ ys) → (x ≡ y → X) → (Listed x ys → X) → X
@@ -28,7 +28,7 @@ module _ (on : ℕ → Bool) (el : ℕ → Element) where
     pub is : x ≡ el at
 
   unfoldable pub further : (k n : ℕ) (x : Element) → Among (suc k) n x → Among k (suc n) x
-  further k n x a = record { at = a .at; from = omega (arith, a .from); below = omega (arith, a .below); is-on = a .is-on; is = a .is }
+  further k n x a = record { at = a.at; from = omega (arith, a.from); below = omega (arith, a.below); is-on = a.is-on; is = a.is }
 
   pub listed-among : (n k : ℕ) (x : Element) → Listed x (actives on el n k) → Among k n x
   unfolding actives
@@ -64,29 +64,29 @@ module _ (on : ℕ → Bool) (el : ℕ → Element) where
       go true l = there l
       go false l = l
 
-  pub listed-at : (n e : ℕ) → e < n → on e ≡ true → Listed (el e) (actives on el n 0)
-  listed-at n e h q =
+  pub listed_at : (n e : ℕ) → e < n → on e ≡ true → Listed (el e) (actives on el n 0)
+  listed_at n e h q =
       let w : 0 + e ≡ e = omega arith in
       subst (λ (y : ℕ). Listed (el y) (actives on el n 0)) w (among-listed n 0 e h (subst (λ (y : ℕ). on y ≡ true) (sym w) q))
 
   module _ (W L : ℕ) where
     abbrev pub lies : ℕ → Bool
-    lies e = in_window W L (el e .address) (length (el e .bytes))
+    lies e = in_window W L (el e).address (length (el e).bytes)
 
     -- the first of them outside the window, those before it being inside
     pub record Lowest (k n : ℕ) (x : Element) : Type 0 where
       pub among : Among k n x
-      pub out : lies (among .at) ≡ false
-      pub before : (d : ℕ) → k ≤ d → d < among .at → on d ≡ true → lies d ≡ true
+      pub out : lies among.at ≡ false
+      pub before : (d : ℕ) → k ≤ d → d < among.at → on d ≡ true → lies d ≡ true
 
     past : (k n : ℕ) (x : Element) → (on k ≡ true → lies k ≡ true) → Lowest (suc k) n x → Lowest k (suc n) x
     unfolding further
     past k n x i l =
         record {
-          among = further k n x (l .among);
-          out = l .out;
+          among = further k n x l.among;
+          out = l.out;
           before = λ d h j q.
-              two k d (λ g. l .before d g j q)
+              two k d (λ g. l.before d g j q)
               (λ g. let w : d ≡ k = omega arith in subst (λ (y : ℕ). lies y ≡ true) (sym w) (i (subst (λ (y : ℕ). on y ≡ true) w q)));
         }
 

@@ -1,15 +1,15 @@
 -- A store's list of active elements: which stands before which, and the first that shares a byte with a lower one. Assumes nothing.
-use mathlib.Core.Path.{_≡_, refl, sym, ap, _∙_, subst}
+use mathlib.Core.Path.{◌≡◌, refl, sym, ap, ◌∙◌, subst}
 use mathlib.Core.Bool.{Bool, true, false, cond}
-use mathlib.Core.List.{List, [], _∷_}
+use mathlib.Core.List.{List, [], ◌∷◌}
 use mathlib.Core.Option.{some}
-use Prim.Native.Nat.{ℕ, zero, suc, _+_, _≤_, _<_}
+use Prim.Native.Nat.{ℕ, zero, suc, ◌+◌, ◌≤◌, ◌<◌}
 use native.Mathlib.Omega.{arith}
-use Rattle·endian.proofs.Order.{two, absurdly}
-use Rattle·writes.specs.Elements.{Element, shares_with, overlap_from}
-use Rattle·elements.specs.Elements.{actives}
-use Rattle·verdicts.specs.Statements.{Listed, here, there, StandsBefore, first, later}
-use Rattle·demands·proofs.proofs.Listed.{Among, further, listed-among, among-listed}
+use Rattle.endian.proofs.Order.{two, absurdly}
+use Rattle.writes.specs.Elements.{Element, shares_with, overlap_from}
+use Rattle.elements.specs.Elements.{actives}
+use Rattle.verdicts.specs.Statements.{Listed, here, there, StandsBefore, first, later}
+use Rattle.demands.proofs.Listed.{Among, further, listed-among, among-listed}
 
 module _ (on : ℕ → Bool) (el : ℕ → Element) where
   -- ---- which stands before which
@@ -24,20 +24,20 @@ module _ (on : ℕ → Bool) (el : ℕ → Element) where
     pub low-on : on low ≡ true
     pub high-on : on high ≡ true
     pub low-is : y ≡ el low
-    pub high-is : x ≡ el high
+    pub high_is : x ≡ el high
 
   two-further : (k n : ℕ) (y x : Element) → Two (suc k) n y x → Two k (suc n) y x
   two-further k n y x t =
       record {
-        low = t .low;
-        high = t .high;
-        from = omega (arith, t .from);
-        up = t .up;
-        below = omega (arith, t .below);
-        low-on = t .low-on;
-        high-on = t .high-on;
-        low-is = t .low-is;
-        high-is = t .high-is;
+        low = t.low;
+        high = t.high;
+        from = omega (arith, t.from);
+        up = t.up;
+        below = omega (arith, t.below);
+        low-on = t.low-on;
+        high-on = t.high-on;
+        low-is = t.low-is;
+        high_is = t.high_is;
       }
 
   pub stands-two : (n k : ℕ) (y x : Element) → StandsBefore y x (actives on el n k) → Two k n y x
@@ -51,14 +51,14 @@ module _ (on : ℕ → Bool) (el : ℕ → Element) where
           let a = f l in
           record {
             low = k;
-            high = a .at;
+            high = a.at;
             from = omega arith;
-            up = omega (arith, a .from);
-            below = omega (arith, a .below);
+            up = omega (arith, a.from);
+            below = omega (arith, a.below);
             low-on = q;
-            high-on = a .is-on;
+            high-on = a.is-on;
             low-is = i;
-            high-is = a .is;
+            high_is = a.is;
           }
       split z zs i q (later r) f g = two-further k n y x (g r)
 
@@ -116,12 +116,12 @@ module _ (on : ℕ → Bool) (el : ℕ → Element) where
       split : (z : Element) (zs : List Element) → z ≡ el k → on k ≡ true → Listed y (z ∷ zs)
           → (Listed y zs → (d : ℕ) × (d < k) × (on d ≡ true) × (y ≡ el d)) → (d : ℕ) × (d < suc k) × (on d ≡ true) × (y ≡ el d)
       split z zs i q here f = (k, omega arith, q, i)
-      split z zs i q (there r) f = let t = f r in (t .0, omega (arith, t .1), t .2, t .3)
+      split z zs i q (there r) f = let t = f r in (t.0, omega (arith, t.1), t.2, t.3)
 
       go : (b : Bool) → on k ≡ b → Listed y (cond b (el k ∷ lower_of k) (lower_of k))
           → (Listed y (lower_of k) → (d : ℕ) × (d < k) × (on d ≡ true) × (y ≡ el d)) → (d : ℕ) × (d < suc k) × (on d ≡ true) × (y ≡ el d)
       go true q r f = split (el k) (lower_of k) refl q r f
-      go false q r f = let t = f r in (t .0, omega (arith, t .1), t .2, t .3)
+      go false q r f = let t = f r in (t.0, omega (arith, t.1), t.2, t.3)
 
   pub lower-listed : (k d : ℕ) → d < k → on d ≡ true → Listed (el d) (lower_of k)
   unfolding lower_of
@@ -141,17 +141,17 @@ module _ (on : ℕ → Bool) (el : ℕ → Element) where
 
   pub record Lowest (k n : ℕ) (x : Element) : Type 0 where
     pub among : Among on el k n x
-    pub shares : shares_with (el (among .at)) (lower_of (among .at)) ≡ true
-    pub before : (c : ℕ) → k ≤ c → c < among .at → on c ≡ true → shares_with (el c) (lower_of c) ≡ false
+    pub shares : shares_with (el among.at) (lower_of among.at) ≡ true
+    pub before : (c : ℕ) → k ≤ c → c < among.at → on c ≡ true → shares_with (el c) (lower_of c) ≡ false
 
   past : (k n : ℕ) (x : Element) → (on k ≡ true → shares_with (el k) (lower_of k) ≡ false) → Lowest (suc k) n x → Lowest k (suc n) x
   unfolding further
   past k n x i l =
       record {
-        among = further on el k n x (l .among);
-        shares = l .shares;
+        among = further on el k n x l.among;
+        shares = l.shares;
         before = λ c h j q.
-            two k c (λ g. l .before c g j q)
+            two k c (λ g. l.before c g j q)
             (λ g.
             let w : c ≡ k = omega arith in
             subst (λ (y : ℕ). shares_with (el y) (lower_of y) ≡ false) (sym w) (i (subst (λ (y : ℕ). on y ≡ true) w q)));

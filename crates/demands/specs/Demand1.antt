@@ -1,17 +1,14 @@
 -- Demand 1 as one statement, over the predicates of the contracts of `store` (`Stored`) and `apply` (`AppliedTo`). Its proof is `demand1`
 -- in proofs/Demand1.antt. Assumes nothing.
-use Prim.Native.Nat.{ℕ, _≤_}
-use mathlib.Core.List.{List}
-use mathlib.Core.Logic.{_⊎_}
-use mathlib.Core.Path.{_≡_}
-use Rattle·elements.specs.Machine.{Machine}
-use Rattle·verdicts.specs.Verdicts.{number}
-use Rattle·verdicts.specs.declared.Flags.{Flags}
-use Rattle·verdicts.specs.declared.Verdict.{Verdict}
-use Rattle·outcomes.specs.Storing.{Stored}
-use Rattle·patch.specs.Answers.{applied_number}
-use Rattle·patch.specs.Applying.{AppliedTo}
-use Rattle·patch.specs.declared.Applied.{Applied}
+use Rattle.std.specs.Prelude.{ℕ, ◌≤◌, List, ◌⊎◌, ◌≡◌}
+use Rattle.elements.specs.Machine.{Machine}
+use Rattle.verdicts.specs.Verdicts.{number}
+use Rattle.verdicts.specs.declared.Flags.{Flags}
+use Rattle.verdicts.specs.declared.Verdict.{Verdict}
+use Rattle.outcomes.specs.Storing.{Stored}
+use Rattle.patch.specs.Answers.{applied_number}
+use Rattle.patch.specs.Applying.{AppliedTo}
+use Rattle.patch.specs.declared.Applied.{Applied}
 
 -- an answer and a buffer's content at exit meet the predicate, and no others do
 pub record ExactlyOne {A : Type 0} (P : A → List ℕ → Type 0) : Type 0 where
@@ -43,11 +40,11 @@ pub record Demand1 : Type 0 where
   pub apply_one : (W : ℕ) (mem s : List ℕ) → ExactlyOne (AppliedTo W mem s)
   -- "done, or one of the numbered refusals of document 01, among them undefined, illegal, fault and no room"; document 02 (ix): "one
   -- call checks 1 to 7, 12 and 8"; "Applying checks 3, 9, 10."; "Done is number 0". The answers have no other kinds.
-  pub store_numbered : (f : Flags) (m : Machine) (W : ℕ) (mem : List ℕ) (word : ℕ) (buffer : List ℕ) (v : Verdict) (mem′ buffer′ : List ℕ)
-      → Stored f m W mem word buffer v mem′ buffer′ → OfStoring (number v)
-  pub apply_numbered : (W : ℕ) (mem s : List ℕ) (r : Applied) (mem′ : List ℕ) → AppliedTo W mem s r mem′ → OfApplying (applied_number r)
+  pub store_numbered : (f : Flags) (m : Machine) (W : ℕ) (mem : List ℕ) (word : ℕ) (buffer : List ℕ) (v : Verdict) (mem' buffer' : List ℕ)
+      → Stored f m W mem word buffer v mem' buffer' → OfStoring (number v)
+  pub apply_numbered : (W : ℕ) (mem s : List ℕ) (r : Applied) (mem' : List ℕ) → AppliedTo W mem s r mem' → OfApplying (applied_number r)
   -- "Every verdict but done leaves memory and patch buffer byte for byte as they came."
-  pub store_keeps : (f : Flags) (m : Machine) (W : ℕ) (mem : List ℕ) (word : ℕ) (buffer : List ℕ) (v : Verdict) (mem′ buffer′ : List ℕ)
-      → Stored f m W mem word buffer v mem′ buffer′ → (number v ≡ 0 → ⊥) → (mem′ ≡ mem) × (buffer′ ≡ buffer)
-  pub apply_keeps : (W : ℕ) (mem s : List ℕ) (r : Applied) (mem′ : List ℕ)
-      → AppliedTo W mem s r mem′ → (applied_number r ≡ 0 → ⊥) → mem′ ≡ mem
+  pub store_keeps : (f : Flags) (m : Machine) (W : ℕ) (mem : List ℕ) (word : ℕ) (buffer : List ℕ) (v : Verdict) (mem' buffer' : List ℕ)
+      → Stored f m W mem word buffer v mem' buffer' → (number v ≡ 0 → ⊥) → (mem' ≡ mem) × (buffer' ≡ buffer)
+  pub apply_keeps : (W : ℕ) (mem s : List ℕ) (r : Applied) (mem' : List ℕ)
+      → AppliedTo W mem s r mem' → (applied_number r ≡ 0 → ⊥) → mem' ≡ mem

@@ -1,43 +1,38 @@
 -- Demand 2 as one statement. Its proof is `demand2` in proofs/Demand2.antt. Assumes nothing.
-use Prim.Native.Nat.{ℕ, suc, _+_, _*_, _%_, _^_, _≤_, _<_}
-use mathlib.Core.Bool.{Bool, true, false}
-use mathlib.Core.List.{List, [], _∷_, _++_}
-use mathlib.Core.Logic.{_↔_, _⊎_}
-use mathlib.Core.Option.{Option·get_or}
-use mathlib.Core.Path.{_≡_}
-use lib.ListN.{length, get_or, replicate}
-use Rattle·encoding.specs.Answers.{decoded_numbers}
-use Rattle·encoding.specs.Classes.{classes}
-use Rattle·encoding.specs.Decoding.{decode_of}
-use Rattle·encoding.specs.Encoding.{class_for}
-use Rattle·encoding.specs.Statements.{DecodesItsClass, UndefinedOutside, OneClass, ScatterWidths, StridedWidths}
-use Rattle·encoding.specs.Statements.{EncodesDecoded, DecodesEncoded, RefusedForACause, NumbersFromBits}
-use Rattle·encoding.specs.declared.Decoded.the-variants as D
-use Rattle·encoding.specs.declared.Encoded.the-variants as E
-use Rattle·encoding.specs.declared.Store.{Store}
-use Rattle·codec.specs.Codec.{encoded_answers}
-use Rattle·codec.specs.Statements.{EncodesDecodedNumbers, DecodesEncodedNumbers, RefusesNumbers}
-use Rattle·writes.specs.Elements.{Element, last_at, steps_of}
-use Rattle·writes.specs.Encoding.{PatchOf}
-use Rattle·writes.specs.Sets.{ByteWrite, Run, run, runs}
-use Rattle·writes.specs.Statements.{Among}
-use Rattle·window.specs.Window.{window_ok, in_window}
-use Rattle·elements.specs.Machine.{Machine}
-use Rattle·elements.specs.Stores.{size_of, count_of, register_in, index_in}
-use Rattle·elements.specs.Elements.{active_at, element_at, elements}
-use Rattle·verdicts.specs.Verdicts.{elements_for, patch_of, length_ok, registers_ok, Row, table, number}
-use Rattle·verdicts.specs.Statements.{NoneGiven, Decides, before, TableNumbered, TableInOrder, TableGivenWhen, Listed, Writes}
-use Rattle·verdicts.specs.declared.Flags.{Flags}
-use Rattle·verdicts.specs.declared.Refusal.the-variants.{Fault, Overlap}
-use Rattle·verdicts.specs.declared.Verdict.{Verdict}
-use Rattle·verdicts.specs.declared.Verdict.the-variants.{Done, Refused}
-use Rattle·outcomes.specs.Storing.{Stored, numbers}
-use Rattle·patch.specs.Answers.{applied_number, applied_numbers, judged_number, judged_numbers}
-use Rattle·patch.specs.Applying.{AppliedTo}
-use Rattle·patch.specs.Statements.{Encodes}
-use Rattle·patch.specs.declared.Applied.{Applied}
-use Rattle·patch.specs.declared.Applied.the-variants as A
-use Rattle·patch.specs.declared.Judged.the-variants as J
+use Rattle.std.specs.Prelude.{ℕ, suc, ◌+◌, ◌*◌, ◌%◌, ◌^◌, ◌≤◌, ◌<◌, Bool, true, false, List, [], ◌∷◌, ◌++◌, ◌↔◌, ◌⊎◌, ◌≡◌, length, get_or, replicate}
+use Rattle.std.proofs.Math.Option
+use Rattle.encoding.specs.Answers.{decoded_numbers}
+use Rattle.encoding.specs.Classes.{classes}
+use Rattle.encoding.specs.Decoding.{decode_of}
+use Rattle.encoding.specs.Encoding.{class_for}
+use Rattle.encoding.specs.Statements.{DecodesItsClass, UndefinedOutside, OneClass, ScatterWidths, StridedWidths}
+use Rattle.encoding.specs.Statements.{EncodesDecoded, DecodesEncoded, RefusedForACause, NumbersFromBits}
+use Rattle.encoding.specs.declared.Decoded.TheVariants as D
+use Rattle.encoding.specs.declared.Encoded.TheVariants as E
+use Rattle.encoding.specs.declared.Store.{Store}
+use Rattle.codec.specs.Codec.{encoded_answers}
+use Rattle.codec.specs.Statements.{EncodesDecodedNumbers, DecodesEncodedNumbers, RefusesNumbers}
+use Rattle.writes.specs.Elements.{Element, last_at, steps_of}
+use Rattle.writes.specs.Encoding.{PatchOf}
+use Rattle.writes.specs.Sets.{ByteWrite, Run, run, runs}
+use Rattle.writes.specs.Statements.{Among}
+use Rattle.window.specs.Window.{window_ok, in_window}
+use Rattle.elements.specs.Machine.{Machine}
+use Rattle.elements.specs.Stores.{size_of, count_of, register_in, index_in}
+use Rattle.elements.specs.Elements.{active_at, element_at, elements}
+use Rattle.verdicts.specs.Verdicts.{elements_for, patch_of, length_ok, registers_ok, Row, table, number}
+use Rattle.verdicts.specs.Statements.{NoneGiven, Decides, before, TableNumbered, TableInOrder, TableGivenWhen, Listed, Writes}
+use Rattle.verdicts.specs.declared.Flags.{Flags}
+use Rattle.verdicts.specs.declared.Refusal.TheVariants.{Fault, Overlap}
+use Rattle.verdicts.specs.declared.Verdict.{Verdict}
+use Rattle.verdicts.specs.declared.Verdict.TheVariants.{Done, Refused}
+use Rattle.outcomes.specs.Storing.{Stored, numbers}
+use Rattle.patch.specs.Answers.{applied_number, applied_numbers, judged_number, judged_numbers}
+use Rattle.patch.specs.Applying.{AppliedTo}
+use Rattle.patch.specs.Statements.{Encodes}
+use Rattle.patch.specs.declared.Applied.{Applied}
+use Rattle.patch.specs.declared.Applied.TheVariants as A
+use Rattle.patch.specs.declared.Judged.TheVariants as J
 
 -- ---- a done store's elements
 
@@ -50,7 +45,7 @@ ListsTheActive =
 -- it ascends by number, so that the last element is the highest
 abbrev pub Rising : ℕ → List Element → Type 0
 Rising k [] = Unit {0}
-Rising k (x ∷ xs) = (k ≤ x .number) × Rising (suc (x .number)) xs
+Rising k (x ∷ xs) = (k ≤ x.number) × Rising (suc x.number) xs
 
 abbrev pub InAscendingOrder : Type 0
 InAscendingOrder = (m : Machine) (s : Store) → Rising 0 (elements m s)
@@ -58,26 +53,26 @@ InAscendingOrder = (m : Machine) (s : Store) → Rising 0 (elements m s)
 -- each element of a word's store has exactly msize/8 bytes, and its byte k is byte r·VB + its index + k of the Z buffer
 abbrev pub ElementBytes : Type 0
 ElementBytes =
-    (f : Flags) (m : Machine) (word : ℕ) (s : Store) (e : ℕ) → length_ok (f .early) (f .streaming) (m .vb) ≡ true → registers_ok m ≡ true
+    (f : Flags) (m : Machine) (word : ℕ) (s : Store) (e : ℕ) → length_ok f.early f.streaming m.vb ≡ true → registers_ok m ≡ true
     → decode_of word ≡ D.Known s
     → e < count_of m s
-    → (length (element_at m s e .bytes) ≡ size_of (class_for s))
+    → (length (element_at m s e).bytes ≡ size_of (class_for s))
     × ((k : ℕ) → k < size_of (class_for s)
-    → get_or (element_at m s e .bytes) k 0 ≡ get_or (m .z) (register_in m (class_for s) s e * m .vb + index_in m (class_for s) s e + k) 0)
+    → get_or (element_at m s e).bytes k 0 ≡ get_or m.z (register_in m (class_for s) s e * m.vb + index_in m (class_for s) s e + k) 0)
 
 -- at each offset in the window the memory after a done store has the byte of the last active element that covers it, or the old byte
 abbrev pub ByteByByte : Type 0
 ByteByByte =
-    (f : Flags) (m : Machine) (W : ℕ) (mem : List ℕ) (word : ℕ) (buffer : List ℕ) (n b k t : ℕ) (mem′ buffer′ : List ℕ)
-    → Stored f m W mem word buffer (Done n b k t) mem′ buffer′
-    → (length mem′ ≡ length mem)
-    × ((i : ℕ) → i < length mem → get_or mem′ i 0 ≡ Option·get_or (last_at (W + i) (elements_for m (decode_of word))) (get_or mem i 0))
+    (f : Flags) (m : Machine) (W : ℕ) (mem : List ℕ) (word : ℕ) (buffer : List ℕ) (n b k t : ℕ) (mem' buffer' : List ℕ)
+    → Stored f m W mem word buffer (Done n b k t) mem' buffer'
+    → (length mem' ≡ length mem)
+    × ((i : ℕ) → i < length mem → get_or mem' i 0 ≡ Option.get_or (last_at (W + i) (elements_for m (decode_of word))) (get_or mem i 0))
 
 -- done counts the active elements, msize/8 bytes for each, the patch's bytes, and the steps
 abbrev pub CountsOfDone : Type 0
 CountsOfDone =
-    (f : Flags) (m : Machine) (W : ℕ) (mem : List ℕ) (word : ℕ) (buffer : List ℕ) (n b k t : ℕ) (mem′ buffer′ : List ℕ) (s : Store)
-    → Stored f m W mem word buffer (Done n b k t) mem′ buffer′ → decode_of word ≡ D.Known s
+    (f : Flags) (m : Machine) (W : ℕ) (mem : List ℕ) (word : ℕ) (buffer : List ℕ) (n b k t : ℕ) (mem' buffer' : List ℕ) (s : Store)
+    → Stored f m W mem word buffer (Done n b k t) mem' buffer' → decode_of word ≡ D.Known s
     → (n ≡ length (elements m s)) × (b ≡ length (elements m s) * size_of (class_for s)) × (k ≡ length (patch_of (elements m s)))
     × (t ≡ steps_of (elements m s))
 
@@ -90,8 +85,8 @@ table_for f m W mem word buffer = table f m W (length mem) (decode_of word) (len
 -- a number other than 0 is answered exactly when a line of that number is given and none before it is; done exactly when none is
 abbrev pub StoringDecided : Type 0
 StoringDecided =
-    (f : Flags) (m : Machine) (W : ℕ) (mem : List ℕ) (word : ℕ) (buffer : List ℕ) (v : Verdict) (mem′ buffer′ : List ℕ)
-    → Stored f m W mem word buffer v mem′ buffer′
+    (f : Flags) (m : Machine) (W : ℕ) (mem : List ℕ) (word : ℕ) (buffer : List ℕ) (v : Verdict) (mem' buffer' : List ℕ)
+    → Stored f m W mem word buffer v mem' buffer'
     → ((n : ℕ) → (n ≡ 0 → ⊥) → (number v ≡ n) ↔ Decides n (table_for f m W mem word buffer))
     × ((number v ≡ 0) ↔ NoneGiven (table_for f m W mem word buffer))
 
@@ -99,13 +94,13 @@ StoringDecided =
 -- would pass the top of the address space faults."
 abbrev pub SomeByteOutside : ℕ → ℕ → List Element → Type 0
 SomeByteOutside W L es =
-    (x : Element) × Listed x es × ((k : ℕ) × (k < length (x .bytes)) × ((x .address + k < W) ⊎ (W + L ≤ x .address + k)))
+    (x : Element) × Listed x es × ((k : ℕ) × (k < length x.bytes) × ((x.address + k < W) ⊎ (W + L ≤ x.address + k)))
 
 -- 7 is answered exactly then, where nothing is given that stands before it
 abbrev pub FaultGiven : Type 0
 FaultGiven =
-    (f : Flags) (m : Machine) (W : ℕ) (mem : List ℕ) (word : ℕ) (buffer : List ℕ) (v : Verdict) (mem′ buffer′ : List ℕ)
-    → Stored f m W mem word buffer v mem′ buffer′
+    (f : Flags) (m : Machine) (W : ℕ) (mem : List ℕ) (word : ℕ) (buffer : List ℕ) (v : Verdict) (mem' buffer' : List ℕ)
+    → Stored f m W mem word buffer v mem' buffer'
     → (number v ≡ 7)
     ↔ (NoneGiven (before 7 (table_for f m W mem word buffer)) × SomeByteOutside W (length mem) (elements_for m (decode_of word)))
 
@@ -121,11 +116,11 @@ TwoActiveShare m s =
 -- "With it on, verdict 12 is given exactly when" they do, where nothing is given that stands before it
 abbrev pub OverlapGiven : Type 0
 OverlapGiven =
-    (f : Flags) (m : Machine) (W : ℕ) (mem : List ℕ) (word : ℕ) (buffer : List ℕ) (v : Verdict) (mem′ buffer′ : List ℕ)
-    → Stored f m W mem word buffer v mem′ buffer′
+    (f : Flags) (m : Machine) (W : ℕ) (mem : List ℕ) (word : ℕ) (buffer : List ℕ) (v : Verdict) (mem' buffer' : List ℕ)
+    → Stored f m W mem word buffer v mem' buffer'
     → (number v ≡ 12)
     ↔ (NoneGiven (before 12 (table_for f m W mem word buffer))
-    × (f .strict ≡ true)
+    × (f.strict ≡ true)
     × ((s : Store) × (decode_of word ≡ D.Known s) × TwoActiveShare m s))
 
 -- "a run isn't wholly in the window"
@@ -135,7 +130,7 @@ SomeRunOutside W L rs = (a : ℕ) × (p : List ℕ) × Among a p rs × (in_windo
 -- 3 by the window alone; then 9 where no set within the sizes has this encoding; then 10 by the runs of the set that has it
 abbrev pub ApplyingDecided : Type 0
 ApplyingDecided =
-    (W : ℕ) (mem s : List ℕ) (r : Applied) (mem′ : List ℕ) → AppliedTo W mem s r mem′
+    (W : ℕ) (mem s : List ℕ) (r : Applied) (mem' : List ℕ) → AppliedTo W mem s r mem'
     → ((applied_number r ≡ 3) ↔ (window_ok W (length mem) ≡ false))
     × ((applied_number r ≡ 9) ↔ ((window_ok W (length mem) ≡ true) × (Encodes s → ⊥)))
     × ((applied_number r ≡ 10)
@@ -145,41 +140,41 @@ ApplyingDecided =
 
 -- element e of the store lies in the window
 abbrev pub lies_in : ℕ → ℕ → Machine → Store → ℕ → Bool
-lies_in W L m s e = in_window W L (element_at m s e .address) (length (element_at m s e .bytes))
+lies_in W L m s e = in_window W L (element_at m s e).address (length (element_at m s e).bytes)
 
 -- a fault names an active element outside the window, and each active element below it lies inside. Document 02 (ii): "keep the lowest
 -- faulting element, and return the address, modulo 2^64, of the first of its bytes, in its own byte order, that isn't in the window":
 -- byte k isn't, and each before it is
 abbrev pub FaultNamesTheLowest : Type 0
 FaultNamesTheLowest =
-    (f : Flags) (m : Machine) (W : ℕ) (mem : List ℕ) (word : ℕ) (buffer : List ℕ) (e a : ℕ) (mem′ buffer′ : List ℕ) (s : Store)
-    → Stored f m W mem word buffer (Refused (Fault e a)) mem′ buffer′ → decode_of word ≡ D.Known s
+    (f : Flags) (m : Machine) (W : ℕ) (mem : List ℕ) (word : ℕ) (buffer : List ℕ) (e a : ℕ) (mem' buffer' : List ℕ) (s : Store)
+    → Stored f m W mem word buffer (Refused (Fault e a)) mem' buffer' → decode_of word ≡ D.Known s
     → (e < count_of m s)
     × (active_at m s e ≡ true)
     × ((k : ℕ)
-    × (k < length (element_at m s e .bytes))
-    × (a ≡ (element_at m s e .address + k) % 2 ^ 64)
+    × (k < length (element_at m s e).bytes)
+    × (a ≡ ((element_at m s e).address + k) % 2 ^ 64)
     × (in_window W (length mem) a 1 ≡ false)
-    × ((j : ℕ) → j < k → in_window W (length mem) ((element_at m s e .address + j) % 2 ^ 64) 1 ≡ true))
+    × ((j : ℕ) → j < k → in_window W (length mem) (((element_at m s e).address + j) % 2 ^ 64) 1 ≡ true))
     × (lies_in W (length mem) m s e ≡ false)
     × ((d : ℕ) → d < e → active_at m s d ≡ true → lies_in W (length mem) m s d ≡ true)
 
 -- document 02 (viii): "returns the lowest active element that shares one with a lower active element, and its first address"
 abbrev pub OverlapNamesTheLowest : Type 0
 OverlapNamesTheLowest =
-    (f : Flags) (m : Machine) (W : ℕ) (mem : List ℕ) (word : ℕ) (buffer : List ℕ) (e a : ℕ) (mem′ buffer′ : List ℕ) (s : Store)
-    → Stored f m W mem word buffer (Refused (Overlap e a)) mem′ buffer′ → decode_of word ≡ D.Known s
+    (f : Flags) (m : Machine) (W : ℕ) (mem : List ℕ) (word : ℕ) (buffer : List ℕ) (e a : ℕ) (mem' buffer' : List ℕ) (s : Store)
+    → Stored f m W mem word buffer (Refused (Overlap e a)) mem' buffer' → decode_of word ≡ D.Known s
     → (e < count_of m s)
     × (active_at m s e ≡ true)
-    × (a ≡ element_at m s e .address)
+    × (a ≡ (element_at m s e).address)
     × ((d : ℕ) × (d < e) × (active_at m s d ≡ true) × ShareAByte m s d e)
     × ((c d : ℕ) → c < e → active_at m s c ≡ true → d < c → active_at m s d ≡ true → ShareAByte m s d c → ⊥)
 
 -- "lowest such run, its first address": the run of that number starts there and isn't wholly in the window, those before it are
 abbrev pub OutsideNamesTheLowest : Type 0
 OutsideNamesTheLowest =
-    (W : ℕ) (mem s : List ℕ) (k a : ℕ) (mem′ : List ℕ) (S : List ByteWrite)
-    → AppliedTo W mem s (A.Outside k a) mem′ → PatchOf S s
+    (W : ℕ) (mem s : List ℕ) (k a : ℕ) (mem' : List ℕ) (S : List ByteWrite)
+    → AppliedTo W mem s (A.Outside k a) mem' → PatchOf S s
     → (before : List Run)
     × (p : List ℕ)
     × (after : List Run)

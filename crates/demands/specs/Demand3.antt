@@ -1,30 +1,26 @@
 -- Demand 3 as one statement, over what the calls themselves return and leave: `Stored` and `AppliedTo` are the predicates of the contracts
 -- of `store` and `apply`. Its proof is `demand3` in proofs/Demand3.antt. Assumes nothing.
-use Prim.Native.Nat.{ℕ, _+_, _≤_, _<_}
-use mathlib.Core.List.{List}
-use mathlib.Core.Logic.{_↔_}
-use mathlib.Core.Option.{Option·get_or}
-use mathlib.Core.Path.{_≡_}
-use lib.ListN.{length, get_or, take, drop}
-use Rattle·encoding.specs.Decoding.{decode_of}
-use Rattle·endian.specs.LittleEndian.{Bytes}
-use Rattle·writes.specs.Elements.{net_effect}
-use Rattle·writes.specs.Encoding.{PatchOf}
-use Rattle·writes.specs.Sets.{ByteWrite, lookup, runs}
-use Rattle·writes.specs.Statements.{EqualLookups, RunsAsDescribed, RunAtEachStart, RunsKeepTheRules, EncodingLength}
-use Rattle·writes.specs.Statements.{LargestPatch, WrittenLast}
-use Rattle·elements.specs.Machine.{Machine}
-use Rattle·verdicts.specs.Verdicts.{elements_for, patch_of, table, number}
-use Rattle·verdicts.specs.Statements.{NoneGiven, before}
-use Rattle·verdicts.specs.declared.Flags.{Flags}
-use Rattle·verdicts.specs.declared.Verdict.{Verdict}
-use Rattle·verdicts.specs.declared.Verdict.the-variants.{Done}
-use Rattle·outcomes.specs.Storing.{Stored}
-use Rattle·patch.specs.Answers.{applied_number}
-use Rattle·patch.specs.Applying.{AppliedTo}
-use Rattle·patch.specs.Statements.{ReadAsPatch, WhateverWindow, JudgesAlike, OneEncoding, NoneShared}
-use Rattle·patch.specs.declared.Applied.{Applied}
-use Rattle·patch.specs.declared.Applied.the-variants as A
+use Rattle.std.specs.Prelude.{ℕ, ◌+◌, ◌≤◌, ◌<◌, List, ◌↔◌, ◌≡◌, length, get_or, take, drop}
+use Rattle.std.proofs.Math.Option
+use Rattle.encoding.specs.Decoding.{decode_of}
+use Rattle.endian.specs.LittleEndian.{Bytes}
+use Rattle.writes.specs.Elements.{net_effect}
+use Rattle.writes.specs.Encoding.{PatchOf}
+use Rattle.writes.specs.Sets.{ByteWrite, lookup, runs}
+use Rattle.writes.specs.Statements.{EqualLookups, RunsAsDescribed, RunAtEachStart, RunsKeepTheRules, EncodingLength}
+use Rattle.writes.specs.Statements.{LargestPatch, WrittenLast}
+use Rattle.elements.specs.Machine.{Machine}
+use Rattle.verdicts.specs.Verdicts.{elements_for, patch_of, table, number}
+use Rattle.verdicts.specs.Statements.{NoneGiven, before}
+use Rattle.verdicts.specs.declared.Flags.{Flags}
+use Rattle.verdicts.specs.declared.Verdict.{Verdict}
+use Rattle.verdicts.specs.declared.Verdict.TheVariants.{Done}
+use Rattle.outcomes.specs.Storing.{Stored}
+use Rattle.patch.specs.Answers.{applied_number}
+use Rattle.patch.specs.Applying.{AppliedTo}
+use Rattle.patch.specs.Statements.{ReadAsPatch, WhateverWindow, JudgesAlike, OneEncoding, NoneShared}
+use Rattle.patch.specs.declared.Applied.{Applied}
+use Rattle.patch.specs.declared.Applied.TheVariants as A
 
 -- ---- a done store
 
@@ -37,7 +33,7 @@ NoneDue f m W L word = NoneGiven (before 8 (table f m W L (decode_of word) 0))
 -- a done store on a machine that is lent: what stands in its Z buffer are bytes
 pub record DoneOver (f : Flags) (m : Machine) (W L word : ℕ) : Type 0 where
   pub none_due : NoneDue f m W L word
-  pub lent : Bytes (m .z)
+  pub lent : Bytes m.z
 
 -- "A filling is any L bytes in the memory buffer."
 pub record Filling (L : ℕ) (mem : List ℕ) : Type 0 where
@@ -67,26 +63,26 @@ pub record HandsOut (f : Flags) (m : Machine) (W : ℕ) (mem : List ℕ) (word :
   pub stored : Stored f m W mem word buffer (Done elements bytes size steps) memory after
   pub string : s ≡ take size after
 
--- a call on `mem`, in some buffer with room, leaves mem′
-pub record Leaves (f : Flags) (m : Machine) (W : ℕ) (mem : List ℕ) (word : ℕ) (mem′ : List ℕ) : Type 0 where
+-- a call on `mem`, in some buffer with room, leaves mem'
+pub record Leaves (f : Flags) (m : Machine) (W : ℕ) (mem : List ℕ) (word : ℕ) (mem' : List ℕ) : Type 0 where
   pub buffer : List ℕ
   pub room : HasRoom m word buffer
   pub verdict : Verdict
   pub after : List ℕ
-  pub stored : Stored f m W mem word buffer verdict mem′ after
+  pub stored : Stored f m W mem word buffer verdict mem' after
 
 -- two stores leave the same memory from every filling
 abbrev pub LeaveTheSame : ℕ → ℕ → Flags → Machine → ℕ → Flags → Machine → ℕ → Type 0
 LeaveTheSame W L f m word f₁ m₁ word₁ =
-    (mem : List ℕ) → Filling L mem → (mem′ mem₁′ : List ℕ) → Leaves f m W mem word mem′ → Leaves f₁ m₁ W mem word₁ mem₁′ → mem′ ≡ mem₁′
+    (mem : List ℕ) → Filling L mem → (mem' mem₁' : List ℕ) → Leaves f m W mem word mem' → Leaves f₁ m₁ W mem word₁ mem₁' → mem' ≡ mem₁'
 
 -- ---- the sentences
 
 -- a call answers done exactly when the store is done and the buffer has room; 8 exactly when it is done and the buffer has none
 abbrev pub DoneWithRoom : Type 0
 DoneWithRoom =
-    (f : Flags) (m : Machine) (W : ℕ) (mem : List ℕ) (word : ℕ) (buffer : List ℕ) (v : Verdict) (mem′ buffer′ : List ℕ)
-    → Stored f m W mem word buffer v mem′ buffer′
+    (f : Flags) (m : Machine) (W : ℕ) (mem : List ℕ) (word : ℕ) (buffer : List ℕ) (v : Verdict) (mem' buffer' : List ℕ)
+    → Stored f m W mem word buffer v mem' buffer'
     → ((number v ≡ 0) ↔ (NoneDue f m W (length mem) word × HasRoom m word buffer))
     × ((number v ≡ 8) ↔ (NoneDue f m W (length mem) word × (length buffer < length (patch_for m word))))
 
@@ -95,8 +91,8 @@ DoneWithRoom =
 abbrev pub WhateverFilling : Type 0
 WhateverFilling =
     (f : Flags) (m : Machine) (W : ℕ) (mem mem₁ : List ℕ) (word : ℕ) (buffer buffer₁ : List ℕ) (v v₁ : Verdict)
-    (mem′ mem₁′ buffer′ buffer₁′ : List ℕ)
-    → Stored f m W mem word buffer v mem′ buffer′ → Stored f m W mem₁ word buffer₁ v₁ mem₁′ buffer₁′
+    (mem' mem₁' buffer' buffer₁' : List ℕ)
+    → Stored f m W mem word buffer v mem' buffer' → Stored f m W mem₁ word buffer₁ v₁ mem₁' buffer₁'
     → length mem ≡ length mem₁ → HasRoom m word buffer ↔ HasRoom m word buffer₁ → v ≡ v₁
 
 -- "A done store also has a patch": the encoding of its net effect, which is within the sizes; a call on any filling, in any buffer with
@@ -115,8 +111,8 @@ HasAPatch =
 -- "After a done, bytes of the buffer behind the patch are unchanged."
 abbrev pub KeepsBehind : Type 0
 KeepsBehind =
-    (f : Flags) (m : Machine) (W : ℕ) (mem : List ℕ) (word : ℕ) (buffer : List ℕ) (n b k t : ℕ) (mem′ buffer′ : List ℕ)
-    → Stored f m W mem word buffer (Done n b k t) mem′ buffer′ → drop k buffer′ ≡ drop k buffer
+    (f : Flags) (m : Machine) (W : ℕ) (mem : List ℕ) (word : ℕ) (buffer : List ℕ) (n b k t : ℕ) (mem' buffer' : List ℕ)
+    → Stored f m W mem word buffer (Done n b k t) mem' buffer' → drop k buffer' ≡ drop k buffer
 
 -- on whatever fillings and in whatever buffers the two strings are handed out
 abbrev pub SamePatches : Type 0
@@ -131,18 +127,18 @@ abbrev pub AppliesAsItStores : Type 0
 AppliesAsItStores =
     (f : Flags) (m : Machine) (W L word : ℕ) → DoneOver f m W L word
     → (mem buffer s : List ℕ) → Filling L mem → HandsOut f m W mem word buffer s
-    → (mem₁ mem₁′ : List ℕ) → Filling L mem₁ → Leaves f m W mem₁ word mem₁′
-    → (r : Applied) (mem″ : List ℕ) → AppliedTo W mem₁ s r mem″
-    → (applied_number r ≡ 0) × (mem″ ≡ mem₁′)
+    → (mem₁ mem₁' : List ℕ) → Filling L mem₁ → Leaves f m W mem₁ word mem₁'
+    → (r : Applied) (mem'' : List ℕ) → AppliedTo W mem₁ s r mem''
+    → (applied_number r ≡ 0) × (mem'' ≡ mem₁')
 
 -- "Applying, when done, puts each byte of the patch's set at its address and touches no other byte of the window."; "applying one
 -- returns its runs and payload bytes"
 abbrev pub LaysTheSet : Type 0
 LaysTheSet =
-    (W : ℕ) (mem s : List ℕ) (k t : ℕ) (mem′ : List ℕ) (S : List ByteWrite)
-    → AppliedTo W mem s (A.Done k t) mem′ → PatchOf S s
-    → (length mem′ ≡ length mem)
-    × ((i : ℕ) → i < length mem → get_or mem′ i 0 ≡ Option·get_or (lookup (W + i) S) (get_or mem i 0))
+    (W : ℕ) (mem s : List ℕ) (k t : ℕ) (mem' : List ℕ) (S : List ByteWrite)
+    → AppliedTo W mem s (A.Done k t) mem' → PatchOf S s
+    → (length mem' ≡ length mem)
+    × ((i : ℕ) → i < length mem → get_or mem' i 0 ≡ Option.get_or (lookup (W + i) S) (get_or mem i 0))
     × (k ≡ length (runs S))
     × (t ≡ length S)
 

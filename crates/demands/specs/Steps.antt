@@ -1,25 +1,22 @@
 -- Document 02 (iv): "make that inner step take a stretch at once: active elements, each starting where the active one before it ends. The
 -- steps are counted for a test, and proved to be as many as the active elements that don't start so: one for a whole register that is
 -- contiguous and active." That a done store answers `steps_of` its elements says `CountsOfDone` of demand 2. Assumes nothing.
-use Prim.Native.Nat.{ℕ, suc, _+_, _≤_, _<_}
-use mathlib.Core.Bool.{true, false}
-use mathlib.Core.Path.{_≡_}
-use lib.ListN.{length}
-use Rattle·encoding.specs.Decoding.{decode_of}
-use Rattle·encoding.specs.declared.Decoded.the-variants as D
-use Rattle·encoding.specs.declared.Store.{Store}
-use Rattle·writes.specs.Sets.{runs}
-use Rattle·writes.specs.Elements.{net_effect, steps_of}
-use Rattle·elements.specs.Machine.{Machine}
-use Rattle·elements.specs.Stores.{count_of}
-use Rattle·elements.specs.Elements.{active_at, element_at, elements}
-use Rattle·verdicts.specs.declared.Flags.{Flags}
-use Rattle·demands·specs.specs.Demand3.{DoneOver}
+use Rattle.std.specs.Prelude.{ℕ, suc, ◌+◌, ◌≤◌, ◌<◌, true, false, ◌≡◌, length}
+use Rattle.encoding.specs.Decoding.{decode_of}
+use Rattle.encoding.specs.declared.Decoded.TheVariants as D
+use Rattle.encoding.specs.declared.Store.{Store}
+use Rattle.writes.specs.Sets.{runs}
+use Rattle.writes.specs.Elements.{net_effect, steps_of}
+use Rattle.elements.specs.Machine.{Machine}
+use Rattle.elements.specs.Stores.{count_of}
+use Rattle.elements.specs.Elements.{active_at, element_at, elements}
+use Rattle.verdicts.specs.declared.Flags.{Flags}
+use Rattle.demands.specs.Demand3.{DoneOver}
 
 -- each element of a store starts where the one before it ends
 abbrev pub Contiguous : Machine → Store → Type 0
 Contiguous m s =
-    (e : ℕ) → suc e < count_of m s → element_at m s (suc e) .address ≡ element_at m s e .address + length (element_at m s e .bytes)
+    (e : ℕ) → suc e < count_of m s → (element_at m s (suc e)).address ≡ (element_at m s e).address + length (element_at m s e).bytes
 
 pub record StepsCounted : Type 0 where
   -- "one for a whole register that is contiguous and active", at any vector length and of any width

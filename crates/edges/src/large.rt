@@ -1,5 +1,5 @@
 // Patches that are made here.
-ghost use Prim.Native.Nat.{_≤_};
+ghost use Rattle.std.specs.Prelude.{◌≤◌};
 
 // A byte at an index that the buffer has.
 fn put(s: &mut [u8], at: usize, b: u8) {
@@ -10,7 +10,7 @@ fn put(s: &mut [u8], at: usize, b: u8) {
 
 // The mark, start and length of a run below address 10000h; the bytes in between are 0 already.
 fn head(s: &mut [u8], at: usize, start: u64, len: usize)
-    requires { ⌜ at ≤ 10000 ⌝ }
+    requires { at ≤ 10000 }
 {
     put(s, at, 0x50);
     put(s, at + 1, 0x52);
@@ -21,7 +21,7 @@ fn head(s: &mut [u8], at: usize, start: u64, len: usize)
 }
 
 fn trailer(s: &mut [u8], at: usize, count: usize)
-    requires { ⌜ at ≤ 10000 ⌝ }
+    requires { at ≤ 10000 }
 {
     put(s, at, 0x50);
     put(s, at + 1, 0x45);
@@ -31,7 +31,7 @@ fn trailer(s: &mut [u8], at: usize, count: usize)
 
 // len times the byte b.
 fn fill(s: &mut [u8], at: usize, len: usize, b: u8)
-    requires { ⌜ (at ≤ 10000) × (len ≤ 16) ⌝ }
+    requires { (at ≤ 10000) × (len ≤ 16) }
 {
     let mut i = 0;
     while i < len {
@@ -42,7 +42,7 @@ fn fill(s: &mut [u8], at: usize, len: usize, b: u8)
 
 // n runs of len bytes each from 2000h on with gaps of one, and a trailer.
 pub(crate) fn runs(s: &mut [u8], n: usize, len: usize)
-    requires { ⌜ (n ≤ 513) × (len ≤ 2) ⌝ }
+    requires { (n ≤ 513) × (len ≤ 2) }
 {
     let mut at = 0;
     let mut start = 0x2000;

@@ -3,10 +3,8 @@
 mod large;
 mod stores;
 
-use patch::Applied;
-use patch::Judged;
-use verdicts::Refusal;
-use verdicts::Verdict;
+use patch::{Applied, Judged};
+use verdicts::{Refusal, Verdict};
 
 fn say(text: &[u8]) {
     io::write_all(1, text);

@@ -1,6 +1,5 @@
 // Document 01's other cases at the edges, run on a machine with VB 16: Z1 holds 01 .. 08 in its element 0.
-use verdicts::Flags;
-use verdicts::Verdict;
+use verdicts::{Flags, Verdict};
 
 // Every extension there, streaming with FA64, no SP check.
 fn flags() -> Flags {

@@ -1,19 +1,13 @@
 -- The 64 bits of a product. Assumes nothing.
-use mathlib.Core.Path.{_≡_, sym, ap, ap₂, _∙_, subst}
-use Prim.Native.Nat.{ℕ, zero, suc, _*_, _≤_}
-use native.Mathlib.Nat.{mul-le-mul-left}
-use native.Mathlib.Omega.{arith}
-use lib.IntN.{ℤ, pos, negsuc, negℤ, nat_abs, _*ℤ_}
-use mir.Syntax.{w64}
-use mir.Val.{SFits, to_z, of_z}
-use mir.ValLaws.{to_z-pos, to_z-of_z}
+use Rattle.std.proofs.Common.{◌≡◌, ℕ, zero, suc, ◌*◌, ◌≤◌, ℤ, pos, negsuc, ◌*ℤ◌, neg_ℤ, nat_abs, sym, ap, ◌∙◌, subst, ap₂, mul-le-mul_left, arith, w64, SFits, to_z, of_z}
+use mir.ValLaws.{to_z_pos, to_z-of_z}
 
 -- ---- a product of small numbers
 
 times : (a b : ℕ) → a ≤ 64 → b ≤ 256 → a * b ≤ 16384
-times a b ha hb = omega (arith, mul-le-mul-left a hb)
+times a b ha hb = omega (arith, mul-le-mul_left a hb)
 
-negated : (n : ℕ) → n ≤ 16384 → SFits w64 (negℤ (pos n))
+negated : (n : ℕ) → n ≤ 16384 → SFits w64 (neg_ℤ (pos n))
 negated zero h = record { sfits = omega arith }
 negated (suc n) h = record { sfits = omega arith }
 
@@ -23,7 +17,7 @@ product (negsuc n) u h k = negated (suc n * u) (times (suc n) u h k)
 
 module _ (z : ℤ) (u : ℕ) (f : SFits w64 z) (h : nat_abs z ≤ 64) (k : u ≤ 256) where
   factors : to_z w64 (of_z w64 z) *ℤ to_z w64 u ≡ z *ℤ pos u
-  factors = ap₂ _*ℤ_ (to_z-of_z w64 z f) (to_z-pos w64 u (omega arith))
+  factors = ap₂ ◌*ℤ◌ (to_z-of_z w64 z f) (to_z_pos w64 u (omega arith))
 
   pub product-fits : SFits w64 (to_z w64 (of_z w64 z) *ℤ to_z w64 u)
   product-fits = subst (SFits w64) (sym factors) (product z u h k)

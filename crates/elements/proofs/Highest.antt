@@ -1,22 +1,16 @@
 -- The highest bit of a counter's count, over every vector length. Assumes nothing.
-use mathlib.Core.Path.{_≡_, sym, ap, _∙_, subst}
-use mathlib.Core.Bool.{Bool, not, cond, _&&_}
-use Prim.Native.Nat.{ℕ, zero, suc, _+_, _-_, _*_, _/_, _%_, _^_, _≤_, _<_}
-use native.Mathlib.Nat.{pow-suc}
-use native.Mathlib.Omega.{arith}
-use lib.Dec.{eqb, ltb, leb, leb→le, le→leb}
-use lib.Pow.{pow-mono, pow-lt, pow-add, mod-mod-pow}
-use borrow.Author.Tests.{lt-ltb, le-ltb}
-use Rattle·encoding.proofs.Search.{lowest-at, lowest-holds, lowest-below}
-use Rattle·endian.proofs.Order.{two}
-use Rattle·elements·specs.specs.Counter.{lowest_set, highest, count_in, mask_bit}
-use Rattle·elements·specs.specs.Statements.{HighestBit}
+use Rattle.std.proofs.Common.{◌≡◌, ℕ, zero, suc, ◌+◌, ◌-◌, ◌*◌, ◌/◌, ◌%◌, ◌^◌, ◌<◌, ◌≤◌, Bool, cond, not, ◌&&◌, eqb, ltb, leb, sym, ap, ◌∙◌, subst, pow-suc, arith, le→leb, leb→le, pow_mono, pow-add, le-ltb, lt-ltb}
+use lib.Pow.{pow-lt, mod-mod-pow}
+use Rattle.encoding.proofs.Search.{lowest-at, lowest-holds, lowest-below}
+use Rattle.endian.proofs.Order.{two}
+use Rattle.elements.specs.Counter.{lowest_set, highest, count_in, mask_bit}
+use Rattle.elements.specs.Statements.{HighestBit}
 
 -- ---- the least power of two from 4·VB on
 
-below-power : (n : ℕ) → n < 2 ^ n
-below-power zero = omega arith
-below-power (suc n) = omega (arith, below-power n, pow-suc 2 n)
+below_power : (n : ℕ) → n < 2 ^ n
+below_power zero = omega arith
+below_power (suc n) = omega (arith, below_power n, pow-suc 2 n)
 
 pub four-times : (k : ℕ) → 2 ^ (k + 2) ≡ 4 * 2 ^ k
 four-times k = omega (arith, pow-add 2 k 2)
@@ -30,7 +24,7 @@ module _ (vb : ℕ) where
   highest-reaches =
       two (highest vb) (vb + 2)
       (λ l. leb→le (4 * vb) (2 ^ highest vb) (lowest-holds reached (vb + 2) l))
-      (λ l. omega (arith, four-times vb, below-power vb, pow-mono l))
+      (λ l. omega (arith, four-times vb, below_power vb, pow_mono l))
 
   pub highest-least : (i : ℕ) → i < highest vb → 2 ^ i < 4 * vb
   unfolding highest
@@ -40,15 +34,15 @@ module _ (vb : ℕ) where
 pub highest-power : (k : ℕ) → highest (2 ^ k) ≡ k + 2
 unfolding highest
 highest-power k =
-    lowest-at (reached (2 ^ k)) (2 ^ k + 2) (k + 2) (omega (arith, below-power k))
+    lowest-at (reached (2 ^ k)) (2 ^ k + 2) (k + 2) (omega (arith, below_power k))
     (le→leb (4 * 2 ^ k) (2 ^ (k + 2)) (omega (arith, four-times k)))
     (λ j l t. omega (arith, leb→le (4 * 2 ^ k) (2 ^ j) t, pow-lt l, four-times k))
 
 -- ---- the bits above it
 
 -- what agrees up to a bit agrees up to each lower one
-up-to : (v w n k : ℕ) → k ≤ n → v % 2 ^ n ≡ w % 2 ^ n → v % 2 ^ k ≡ w % 2 ^ k
-up-to v w n k h q = sym (fewer v) ∙ ap (λ (x : ℕ). x % 2 ^ k) q ∙ fewer w
+up_to : (v w n k : ℕ) → k ≤ n → v % 2 ^ n ≡ w % 2 ^ n → v % 2 ^ k ≡ w % 2 ^ k
+up_to v w n k h q = sym (fewer v) ∙ ap (λ (x : ℕ). x % 2 ^ k) q ∙ fewer w
   where
     fewer : (x : ℕ) → x % 2 ^ n % 2 ^ k ≡ x % 2 ^ k
     fewer x = subst (λ (y : ℕ). x % 2 ^ y % 2 ^ k ≡ x % 2 ^ k) (omega arith) (mod-mod-pow x (n - k) k)
@@ -64,7 +58,7 @@ from-four vb h = two (highest vb) 4 (λ l. omega (arith, highest-reaches vb, pow
 
 module _ (vb v w : ℕ) (h : 16 ≤ vb) (q : v % 2 ^ (highest vb + 1) ≡ w % 2 ^ (highest vb + 1)) (r : v / 2 ^ 15 ≡ w / 2 ^ 15) where
   low : (k : ℕ) → k ≤ 4 → v % 2 ^ k ≡ w % 2 ^ k
-  low k l = up-to v w (highest vb + 1) k (omega (arith, from-four vb h)) q
+  low k l = up_to v w (highest vb + 1) k (omega (arith, from-four vb h)) q
 
   lowest-same : lowest_set v ≡ lowest_set w
   unfolding lowest_set

@@ -1,11 +1,8 @@
 -- A predicate register as a counter: document 01, 'Active elements', as document 02 (iii) amends it. Assumes nothing.
-use Prim.Native.Nat.{ℕ, _+_, _*_, _/_, _%_, _^_}
-use mathlib.Core.Bool.{Bool, not, cond, _&&_}
-use lib.Dec.{eqb, ltb, leb}
-use lib.ListN.{take}
-use Rattle·encoding.specs.Encoding.{lowest}
-use Rattle·endian.specs.LittleEndian.{le_val}
-use Rattle·elements·specs.specs.Machine.{Machine, predicate}
+use Rattle.std.specs.Prelude.{ℕ, ◌+◌, ◌*◌, ◌/◌, ◌%◌, ◌^◌, Bool, cond, not, ◌&&◌, leb, take, ◌==◌, nat_le, nat_lt}
+use Rattle.encoding.specs.Encoding.{lowest}
+use Rattle.endian.specs.LittleEndian.{le_val}
+use Rattle.elements.specs.Machine.{Machine, predicate}
 
 -- "Classes 8 to 11 use P register 8 + Pc as a counter.", and so do 25 to 36 (document 02 (vii)). A counter is its register's low 16 bits.
 abbrev pub counter_of : Machine → ℕ → ℕ
@@ -14,7 +11,7 @@ counter_of m pc = le_val (take 2 (predicate m (8 + pc)))
 -- "Its low four bits choose the counter's element size: xxx1 is 8, xx10 is 16, x100 is 32, 1000 is 64": the index of the lowest set
 -- bit, by which the size is 8 times a power of two
 unfoldable pub lowest_set : ℕ → ℕ
-lowest_set v = cond (eqb (v % 2) 1) 0 (cond (eqb (v % 4) 2) 1 (cond (eqb (v % 8) 4) 2 3))
+lowest_set v = cond (v % 2 == 1) 0 (cond (v % 4 == 2) 1 (cond (v % 8 == 4) 2 3))
 
 -- size/8
 abbrev pub unit_of : ℕ → ℕ
@@ -34,5 +31,5 @@ count_in vb v = v % 2 ^ (highest vb + 1) / 2 ^ (lowest_set v + 1)
 -- other bits are 0"; "0000 means nothing is active whatever bit 15 says"
 unfoldable pub mask_bit : ℕ → ℕ → ℕ → Bool
 mask_bit vb v i =
-    not (eqb (v % 16) 0)
-    && (eqb (i % unit_of v) 0 && cond (ltb v (2 ^ 15)) (ltb (i / unit_of v) (count_in vb v)) (leb (count_in vb v) (i / unit_of v)))
+    not (v % 16 == 0)
+    && (i % unit_of v == 0 && cond (nat_lt v (2 ^ 15)) (nat_lt (i / unit_of v) (count_in vb v)) (nat_le (count_in vb v) (i / unit_of v)))

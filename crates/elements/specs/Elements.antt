@@ -1,13 +1,10 @@
 -- A store's active elements: the one list that running a store, its counts and its patch are read from. Assumes nothing.
-use Prim.Native.Nat.{ℕ, zero, suc}
-use mathlib.Core.Bool.{Bool, cond}
-use mathlib.Core.List.{List, [], _∷_}
-use lib.ListN.{take, drop}
-use Rattle·encoding.specs.Encoding.{class_for}
-use Rattle·encoding.specs.declared.Store.{Store}
-use Rattle·writes.specs.Elements.{Element}
-use Rattle·elements·specs.specs.Machine.{Machine, vector}
-use Rattle·elements·specs.specs.Stores.{size_of, count_of, active_in, address_in, register_in, index_in}
+use Rattle.std.specs.Prelude.{ℕ, zero, suc, Bool, cond, List, [], ◌∷◌, take, drop}
+use Rattle.encoding.specs.Encoding.{class_for}
+use Rattle.encoding.specs.declared.Store.{Store}
+use Rattle.writes.specs.Elements.{Element}
+use Rattle.elements.specs.Machine.{Machine, vector}
+use Rattle.elements.specs.Stores.{size_of, count_of, active_in, address_in, register_in, index_in}
 
 unfoldable pub active_at : Machine → Store → ℕ → Bool
 active_at m s e = active_in m (class_for s) s e

@@ -1,9 +1,5 @@
 -- Document 01, 'The machine lent to the model': its registers. Assumes nothing.
-use Prim.Native.Nat.{ℕ, _*_, _/_, _%_, _^_}
-use mathlib.Core.Bool.{Bool, cond}
-use mathlib.Core.List.{List}
-use lib.Dec.{eqb}
-use lib.ListN.{get_or, take, drop}
+use Rattle.std.specs.Prelude.{ℕ, ◌*◌, ◌/◌, ◌%◌, ◌^◌, Bool, cond, List, take, drop, ◌==◌, slice_index}
 
 -- VB in bytes, "31 general registers and SP, 64 bits each", the Z buffer and the P buffer
 pub record Machine : Type 0 where
@@ -18,10 +14,10 @@ machine vb x sp z p = record { vb = vb; x = x; sp = sp; z = z; p = p }
 
 -- "Register number 31 is SP as Rn, and zero as Rm."
 abbrev pub base_of : Machine → ℕ → ℕ
-base_of m n = cond (eqb n 31) (m .sp) (get_or (m .x) n 0)
+base_of m n = cond (n == 31) m.sp (slice_index m.x n)
 
 abbrev pub index_of : Machine → ℕ → ℕ
-index_of m n = cond (eqb n 31) 0 (get_or (m .x) n 0)
+index_of m n = cond (n == 31) 0 (slice_index m.x n)
 
 -- register r of a buffer whose registers have n bytes each
 abbrev pub register : ℕ → List ℕ → ℕ → List ℕ
@@ -29,12 +25,12 @@ register n s r = take n (drop (r * n) s)
 
 -- "Z buffer: 32·VB bytes, register r from byte r·VB"
 abbrev pub vector : Machine → ℕ → List ℕ
-vector m r = register (m .vb) (m .z) r
+vector m r = register m.vb m.z r
 
 -- "P buffer: 2·VB bytes, register g from byte g·VB/8"
 abbrev pub predicate : Machine → ℕ → List ℕ
-predicate m g = register (m .vb / 8) (m .p) g
+predicate m g = register (m.vb / 8) m.p g
 
 -- "bit i in byte i/8 at place i mod 8"
 unfoldable pub bit_at : List ℕ → ℕ → Bool
-bit_at s i = eqb (get_or s (i / 8) 0 / 2 ^ (i % 8) % 2) 1
+bit_at s i = slice_index s (i / 8) / 2 ^ (i % 8) % 2 == 1

@@ -1,7 +1,6 @@
 -- Which of a counter's bits its count takes: document 02 (iii). Assumes nothing.
-use Prim.Native.Nat.{ℕ, _+_, _*_, _/_, _%_, _^_, _≤_, _<_}
-use mathlib.Core.Path.{_≡_}
-use Rattle·elements·specs.specs.Counter.{highest, mask_bit}
+use Rattle.std.specs.Prelude.{◌≡◌, ℕ, ◌+◌, ◌*◌, ◌/◌, ◌%◌, ◌^◌, ◌<◌, ◌≤◌}
+use Rattle.elements.specs.Counter.{highest, mask_bit}
 
 pub record HighestBit : Type 0 where
   -- "bit log2(4·VB) as the count's highest", rounded up: 4·VB is at most that power of two, and above those before it

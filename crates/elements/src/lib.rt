@@ -1,31 +1,22 @@
 // The elements of a store on a lent machine. What a store's elements have in common is decided once, in an
 // access; they are then read by number.
-ghost use mathlib.Core.Path.{_≡_};
-ghost use mathlib.Core.Bool.{false, cond};
-ghost use mathlib.Core.List.{[]};
-ghost use Prim.Native.Nat.{_+_, _-_, _*_, _/_, _%_, _^_, _≤_, _<_};
-ghost use lib.Dec.{eqb};
-ghost use lib.IntN.{pos, nat_abs, _*ℤ_};
-ghost use lib.ListN.{length, get_or};
-ghost use mir.Syntax.{w64};
-ghost use mir.Val.{of_z};
-ghost use Rattle·encoding.specs.Encoding.{class_for, refused};
-ghost use Rattle·elements·specs.specs.Machine.{machine, register, bit_at};
-ghost use Rattle·elements·specs.specs.Stores.{signed32, start_of};
-ghost use Rattle·elements·specs.specs.Accesses.{scatter_access, quadword_access, strided_of};
-ghost use Rattle·elements·specs.specs.Accesses.{offset_bytes, offset_from, address_from, vector_address, vector_active};
-ghost use Rattle·elements·specs.specs.Accesses.{strided_active};
-use encoding::Extension;
-use encoding::Number;
-use encoding::QuadwordFields;
-use encoding::ScatterFields;
-use encoding::Store;
-use encoding::StridedFields;
+ghost use Rattle.std.specs.Prelude.{◌≡◌, ◌+◌, ◌-◌, ◌*◌, ◌/◌, ◌%◌, ◌^◌, ◌<◌, ◌≤◌, false, [], length, pos, ◌*ℤ◌, if◌then◌else◌, nat_eq, slice_index, unsigned_abs};
+ghost use Rattle.std.specs.Int.{w64};
+ghost use Rattle.std.proofs.Common.{of_z};
+ghost use Rattle.encoding.specs.Encoding.{class_for, refused};
+ghost use Rattle.elements.specs.Machine.{machine, register, bit_at};
+ghost use Rattle.elements.specs.Stores.{signed32, start_of};
+ghost use Rattle.elements.specs.Accesses.{scatter_access, quadword_access, strided_of};
+ghost use Rattle.elements.specs.Accesses.{offset_bytes, offset_from, address_from, vector_address, vector_active};
+ghost use Rattle.elements.specs.Accesses.{strided_active};
+
 use encoding::complement::bits_of;
+use encoding::{Extension, Number, QuadwordFields, ScatterFields, Store, StridedFields};
 
 // A scatter or quadword store: offset and base of each address, bytes from element to element, bytes to move, the elements' number,
 // and the registers with the offsets, the predicate and the data. The one-byte field comes first, where a refusal's tag lies in
 // `Checked`: eight bytes there would be stored in pieces and read late.
+#[derive(Drop)]
 pub struct VectorAccess {
     pub extension: Extension,
     pub scale: u32,
@@ -41,6 +32,7 @@ pub struct VectorAccess {
 // A strided store. Of its elements those can be active that lie `gap` bytes apart, the larger of an element's bytes and the counter's
 // unit: its first address, the active ones of them, from `low` up to `high`, their distance and their bytes, how many of them a register
 // has, and its registers: their number, the first, and the distance from one to the next.
+#[derive(Drop)]
 pub struct StridedAccess {
     pub start: u64,
     pub low: usize,
@@ -54,6 +46,7 @@ pub struct StridedAccess {
 }
 
 // Of the elements that lie `gap` bytes apart, `per` in a register: those from `low` up to `high`.
+#[derive(Drop)]
 pub struct Range {
     pub low: usize,
     pub high: usize,
@@ -62,6 +55,7 @@ pub struct Range {
 }
 
 // Elements and bytes, counted where they are written.
+#[derive(Drop)]
 pub struct Counts {
     pub elements: u64,
     pub bytes: u64,
@@ -69,8 +63,8 @@ pub struct Counts {
 
 // Bit i of a row of bytes.
 pub fn bit(s: &[u8], i: usize) -> bool
-    requires { ⌜ i / 8 < length (now s) ⌝ }
-    ensures { λ r. ⌜ r ≡ bit_at (now (s .entry)) i ⌝ }
+    requires { i / 8 < length s.now }
+    ensures { result ≡ bit_at s.now i }
 {
     let b = endian::wide(s[i / 8]);
     (b >> (i % 8)) % 2 == 1
@@ -78,8 +72,8 @@ pub fn bit(s: &[u8], i: usize) -> bool
 
 // General register n; `last` for number 31.
 pub fn general(x: &[u64; 31], last: u64, n: u8) -> u64
-    requires { ⌜ n < 32 ⌝ }
-    ensures { λ r. ⌜ r ≡ cond (eqb n 31) last (get_or (now (x .entry)) n 0) ⌝ }
+    requires { n < 32 }
+    ensures { result ≡ (if nat_eq n 31 then last else slice_index x.now n) }
 {
     if n == 31 {
         return last;
@@ -89,8 +83,8 @@ pub fn general(x: &[u64; 31], last: u64, n: u8) -> u64
 
 // The bytes of register r of a buffer whose registers have n bytes each.
 pub fn register_of(s: &[u8], n: usize, r: usize) -> &[u8]
-    requires { ⌜ r * n + n ≤ length (now s) ⌝ }
-    ensures { λ q. ⌜ now q ≡ register n (now (s .entry)) r ⌝ }
+    requires { r * n + n ≤ length s.now }
+    ensures { result.now ≡ register n s.now r }
 {
     let at = r * n;
     let end = at + n;
@@ -99,16 +93,16 @@ pub fn register_of(s: &[u8], n: usize, r: usize) -> &[u8]
 
 // x * 2^s, modulo 2^64.
 pub fn scaled(x: u64, s: u32) -> u64
-    requires { ⌜ s < 64 ⌝ }
-    ensures { λ r. ⌜ r ≡ (x * 2 ^ s) % 2 ^ 64 ⌝ }
+    requires { s < 64 }
+    ensures { result ≡ (x * 2 ^ s) % 2 ^ 64 }
 {
     x << s
 }
 
 // A number below 2^32, extended by its sign to 64 bits: 2^31 more modulo 2^32, and 2^31 less modulo 2^64.
 fn extended(x: u64) -> u64
-    requires { ⌜ x < 2 ^ 32 ⌝ }
-    ensures { λ r. ⌜ r ≡ signed32 x ⌝ }
+    requires { x < 2 ^ 32 }
+    ensures { result ≡ signed32 x }
 {
     let raised = (x + 0x8000_0000) % 0x1_0000_0000;
     std::num::wrapping_sub_u64(raised, 0x8000_0000)
@@ -116,8 +110,8 @@ fn extended(x: u64) -> u64
 
 // The offset whose element starts at byte `at` of its register.
 fn offset(extension: Extension, reg: &[u8], at: usize) -> u64
-    requires { ⌜ at + offset_bytes extension ≤ length (now reg) ⌝ }
-    ensures { λ r. ⌜ r ≡ offset_from extension (now (reg .entry)) at ⌝ }
+    requires { at + offset_bytes extension ≤ length reg.now }
+    ensures { result ≡ offset_from extension reg.now at }
 {
     match extension {
         Extension::None => endian::le64(reg, at),
@@ -128,9 +122,9 @@ fn offset(extension: Extension, reg: &[u8], at: usize) -> u64
 
 // The address of the element whose offset starts at byte `at` of its register.
 pub fn address_from(base: u64, extension: Extension, scale: u32, offsets: &[u8], at: usize) -> u64
-    requires { ⌜ at + offset_bytes extension ≤ length (now offsets) ⌝ }
-    requires { ⌜ scale < 64 ⌝ }
-    ensures { λ r. ⌜ r ≡ address_from base extension scale (now (offsets .entry)) at ⌝ }
+    requires extension_in_bounds { at + offset_bytes extension ≤ length offsets.now }
+    requires scale_bound { scale < 64 }
+    ensures { result ≡ address_from base extension scale offsets.now at }
 {
     let o = offset(extension, offsets, at);
     std::num::wrapping_add_u64(base, scaled(o, scale))
@@ -138,9 +132,9 @@ pub fn address_from(base: u64, extension: Extension, scale: u32, offsets: &[u8],
 
 // The address of element e of a scatter or quadword store.
 pub fn vector_address(v: VectorAccess, offsets: &[u8], e: usize) -> u64
-    requires { ⌜ e * v .step + offset_bytes (v .extension) ≤ length (now offsets) ⌝ }
-    requires { ⌜ v .scale < 64 ⌝ }
-    ensures { λ r. ⌜ r ≡ vector_address v (now (offsets .entry)) e ⌝ }
+    requires extension_in_bounds { e * v.step + offset_bytes v.extension ≤ length offsets.now }
+    requires scale_bound { v.scale < 64 }
+    ensures { result ≡ vector_address v offsets.now e }
 {
     let extension = v.extension;
     address_from(v.base, extension, v.scale, offsets, e * v.step)
@@ -148,16 +142,16 @@ pub fn vector_address(v: VectorAccess, offsets: &[u8], e: usize) -> u64
 
 // Whether element e of a scatter or quadword store is active.
 pub fn vector_active(v: VectorAccess, governing: &[u8], e: usize) -> bool
-    requires { ⌜ e * v .step / 8 < length (now governing) ⌝ }
-    requires { ⌜ e * v .step < 0x10000 ⌝ }
-    ensures { λ r. ⌜ r ≡ vector_active v (now (governing .entry)) e ⌝ }
+    requires step_in_bounds { e * v.step / 8 < length governing.now }
+    requires step_bound { e * v.step < 0x10000 }
+    ensures { result ≡ vector_active v governing.now e }
 {
     bit(governing, e * v.step)
 }
 
 // The lower of two numbers.
 pub fn lower(x: usize, y: usize) -> usize
-    ensures { λ r. ⌜ r ≡ x - (x - y) ⌝ }
+    ensures { result ≡ x - (x - y) }
 {
     if x < y {
         return x;
@@ -167,8 +161,8 @@ pub fn lower(x: usize, y: usize) -> usize
 
 // Whether the element of a strided store is active whose first byte is the i-th of its registers' bytes.
 pub fn strided_active(s: StridedAccess, i: usize) -> bool
-    requires { ⌜ 0 < s .gap ⌝ }
-    ensures { λ r. ⌜ r ≡ strided_active s i ⌝ }
+    requires { 0 < s.gap }
+    ensures { result ≡ strided_active s i }
 {
     let k = i / s.gap;
     (i % s.gap == 0) & ((s.low <= k) & (k < s.high))
@@ -176,23 +170,23 @@ pub fn strided_active(s: StridedAccess, i: usize) -> bool
 
 // The address i bytes behind the first of a strided store.
 pub fn strided_address(s: StridedAccess, i: usize) -> u64
-    ensures { λ r. ⌜ r ≡ (s .start + i) % 2 ^ 64 ⌝ }
+    ensures { result ≡ (s.start + i) % 2 ^ 64 }
 {
     std::num::wrapping_add_u64(s.start, i as u64)
 }
 
 // base + z * unit, modulo 2^64.
 pub fn displaced(base: u64, z: i64, unit: usize) -> u64
-    requires { ⌜ (nat_abs z ≤ 64) × (unit ≤ 256) ⌝ }
-    ensures { λ r. ⌜ r ≡ (base + of_z w64 (z *ℤ pos unit)) % 2 ^ 64 ⌝ }
+    requires { (unsigned_abs z ≤ 64) × (unit ≤ 256) }
+    ensures { result ≡ (base + of_z w64 (z *ℤ pos unit)) % 2 ^ 64 }
 {
     let d = z * unit as i64;
     std::num::wrapping_add_u64(base, bits_of(d))
 }
 
 pub fn scatter_access(f: ScatterFields, vb: usize, x: &[u64; 31], sp: u64) -> VectorAccess
-    requires { ⌜ (refused (Store.Scatter f) ≡ false) × (vb ≤ 256) ⌝ }
-    ensures { λ r. ⌜ r ≡ scatter_access (machine vb (now (x .entry)) sp [] []) (class_for (Store.Scatter f)) f ⌝ }
+    requires { (refused (Store.Scatter f) ≡ false) × (vb ≤ 256) }
+    ensures { result ≡ scatter_access (machine vb x.now sp [] []) (class_for (Store.Scatter f)) f }
 {
     let base = general(x, sp, f.rn);
     let extension = f.extension;
@@ -213,8 +207,8 @@ pub fn scatter_access(f: ScatterFields, vb: usize, x: &[u64; 31], sp: u64) -> Ve
 }
 
 pub fn quadword_access(f: QuadwordFields, vb: usize, x: &[u64; 31]) -> VectorAccess
-    requires { ⌜ (refused (Store.Quadword f) ≡ false) × (vb ≤ 256) ⌝ }
-    ensures { λ r. ⌜ r ≡ quadword_access (machine vb (now (x .entry)) 0 [] []) (class_for (Store.Quadword f)) f ⌝ }
+    requires { (refused (Store.Quadword f) ≡ false) × (vb ≤ 256) }
+    ensures { result ≡ quadword_access (machine vb x.now 0 [] []) (class_for (Store.Quadword f)) f }
 {
     let base = general(x, 0, f.rm);
     let quadword = encoding::number_for(f.class, Number::Step) as usize;
@@ -234,9 +228,8 @@ pub fn quadword_access(f: QuadwordFields, vb: usize, x: &[u64; 31]) -> VectorAcc
 
 // The first address of a strided store.
 pub fn start_of(f: StridedFields, vb: usize, x: &[u64; 31], sp: u64) -> u64
-    requires { ⌜ (refused (Store.Strided f) ≡ false) × (vb ≤ 256) ⌝ }
-    ensures { λ r.
-        ⌜ r ≡ start_of (machine vb (now (x .entry)) sp [] []) (class_for (Store.Strided f)) (f .rn) (f .rm) (f .multiple) % 2 ^ 64 ⌝ }
+    requires { (refused (Store.Strided f) ≡ false) × (vb ≤ 256) }
+    ensures { result ≡ start_of (machine vb x.now sp [] []) (class_for (Store.Strided f)) f.rn f.rm f.multiple % 2 ^ 64 }
 {
     let start = general(x, sp, f.rn);
     if encoding::number_for(f.class, Number::RmValues) == 1 {
@@ -249,7 +242,7 @@ pub fn start_of(f: StridedFields, vb: usize, x: &[u64; 31], sp: u64) -> u64
 
 // From one register of a strided store to the next: 8 for two, 4 for four.
 fn stride_of(nreg: u32) -> usize
-    ensures { λ r. ⌜ r ≡ cond (eqb nreg 2) 8 4 ⌝ }
+    ensures { result ≡ (if nat_eq nreg 2 then 8 else 4) }
 {
     if nreg == 2 {
         return 8;
@@ -259,8 +252,8 @@ fn stride_of(nreg: u32) -> usize
 
 // A strided store's access, by its first address and its range. The callers find those two, so that this is little and inlined.
 pub fn strided_access(f: StridedFields, start: u64, range: Range) -> StridedAccess
-    requires { ⌜ refused (Store.Strided f) ≡ false ⌝ }
-    ensures { λ r. ⌜ r ≡ strided_of (class_for (Store.Strided f)) f start range ⌝ }
+    requires { refused (Store.Strided f) ≡ false }
+    ensures { result ≡ strided_of (class_for (Store.Strided f)) f start range }
 {
     let nreg = encoding::number_for(f.class, Number::Nreg);
     let size = encoding::number_for(f.class, Number::Size) as usize;

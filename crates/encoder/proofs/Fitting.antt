@@ -1,24 +1,24 @@
 -- The encoder's tests and sums are those of the definitions, for each case of store. Assumes nothing.
-use mathlib.Core.Path.{_≡_, refl, sym, ap, ap₂, _∙_}
-use mathlib.Core.Bool.{Bool, true, false, not, cond, _&&_, _||_, and-true}
-use Prim.Native.Nat.{ℕ, _+_, _*_, _/_, _%_, _^_, _<_}
+use mathlib.Core.Path.{◌≡◌, refl, sym, ap, ap₂, ◌∙◌}
+use mathlib.Core.Bool.{Bool, true, false, not, cond, ◌&&◌, ◌||◌, and-true}
+use Prim.Native.Nat.{ℕ, ◌+◌, ◌*◌, ◌/◌, ◌%◌, ◌^◌, ◌<◌}
 use native.Mathlib.Omega.{arith}
 use lib.Dec.{eqb, ltb}
 use lib.ListN.{length}
-use Rattle·encoding.specs.Classes.{imm4, Zt3, Zt2, low, Class, classes, class_at, has, width}
-use Rattle·encoding.specs.declared.Feature.the-variants.{SVE, SME2, SVE2p1}
-use Rattle·encoding.specs.Decoding.{zt_of}
-use Rattle·encoding.specs.Encoding.{misextends, xs_of, imm_of, placed, values_in}
-use Rattle·encoding.specs.Layouts.{layout_of}
-use Rattle·encoding.specs.declared.Layout.{Layout}
-use Rattle·encoding.specs.declared.ScatterFields.{ScatterFields}
-use Rattle·encoding.specs.declared.StridedFields.{StridedFields}
-use Rattle·encoding.specs.declared.QuadwordFields.{QuadwordFields}
-use Rattle·encoding.specs.declared.Store.the-variants.{Scatter, Strided, Quadword}
-use Rattle·encoding.proofs.Tests.{every}
-use Rattle·encoding.proofs.Causes.{fits}
-use Rattle·encoding.proofs.Rows.{scattered, striding, quad}
-use Rattle·encoding.proofs.Reading.{has-xs}
+use Rattle.encoding.specs.Classes.{imm4, Zt3, Zt2, low, Class, classes, class_at, has, width}
+use Rattle.encoding.specs.declared.Feature.TheVariants.{SVE, SME2, SVE2p1}
+use Rattle.encoding.specs.Decoding.{zt_of}
+use Rattle.encoding.specs.Encoding.{misextends, xs_of, imm_of, placed, values_in}
+use Rattle.encoding.specs.Layouts.{layout_of}
+use Rattle.encoding.specs.declared.Layout.{Layout}
+use Rattle.encoding.specs.declared.ScatterFields.{ScatterFields}
+use Rattle.encoding.specs.declared.StridedFields.{StridedFields}
+use Rattle.encoding.specs.declared.QuadwordFields.{QuadwordFields}
+use Rattle.encoding.specs.declared.Store.TheVariants.{Scatter, Strided, Quadword}
+use Rattle.encoding.proofs.Tests.{every}
+use Rattle.encoding.proofs.Causes.{fits}
+use Rattle.encoding.proofs.Rows.{scattered, striding, quad}
+use Rattle.encoding.proofs.Reading.{has-xs}
 
 and4 : (a b c d : Bool) → a && b && c && d ≡ a && (b && (c && (d && true)))
 and4 false b c d = refl
@@ -44,82 +44,82 @@ zt-low c = go (has c Zt3)
     go false = refl
 
 module _ (k : ℕ) (h : k < length classes) where
-  pub scatter-fit : class_at k .feature ≡ SVE → (f : ScatterFields) (l : Layout) → l ≡ layout_of (class_at k) → (a b : Bool)
-      → a ≡ ltb (f .zm) 32 && ltb (f .pg) 8 && ltb (f .rn) 32 && ltb (f .zt) 32
-      → b ≡ not (misextends (eqb (l .xs) 2) (f .extension))
+  pub scatter-fit : (class_at k).feature ≡ SVE → (f : ScatterFields) (l : Layout) → l ≡ layout_of (class_at k) → (a b : Bool)
+      → a ≡ ltb f.zm 32 && ltb f.pg 8 && ltb f.rn 32 && ltb f.zt 32
+      → b ≡ not (misextends (eqb l.xs 2) f.extension)
       → a && b ≡ fits (class_at k) (Scatter f)
   unfolding fits every
   scatter-fit e f l g a b p q =
       let s = scattered k h e in
-      let zm = sym (s .first) in
-      let pg = sym (s .pg) in
-      let rn = sym (s .second) in
-      let zt = sym (s .zt) in
-      ap₂ _&&_
+      let zm = sym s.first in
+      let pg = sym s.pg in
+      let rn = sym s.second in
+      let zt = sym s.zt in
+      ap₂ ◌&&◌
       (p
-      ∙ and4 (ltb (f .zm) 32) (ltb (f .pg) 8) (ltb (f .rn) 32) (ltb (f .zt) 32)
-      ∙ (λ i. ltb (f .zm) (2 ^ zm i) && (ltb (f .pg) (2 ^ pg i) && (ltb (f .rn) (2 ^ rn i) && (ltb (f .zt) (2 ^ zt i) && true))))
+      ∙ and4 (ltb f.zm 32) (ltb f.pg 8) (ltb f.rn 32) (ltb f.zt 32)
+      ∙ (λ i. ltb f.zm (2 ^ zm i) && (ltb f.pg (2 ^ pg i) && (ltb f.rn (2 ^ rn i) && (ltb f.zt (2 ^ zt i) && true))))
       ∙ sym (and-true _))
       (q
-      ∙ ap (λ (y : Layout). not (misextends (eqb (y .xs) 2) (f .extension))) g
-      ∙ ap (λ (x : Bool). not (misextends x (f .extension))) (has-xs (class_at k)))
+      ∙ ap (λ (y : Layout). not (misextends (eqb y.xs 2) f.extension)) g
+      ∙ ap (λ (x : Bool). not (misextends x f.extension)) (has-xs (class_at k)))
 
-  pub strided-fit : class_at k .feature ≡ SME2 → (f : StridedFields) (l : Layout) → l ≡ layout_of (class_at k) → (a : Bool) (i : ℕ)
-      → i ≡ imm_of (l .nreg) (l .imm4) (f .multiple)
+  pub strided-fit : (class_at k).feature ≡ SME2 → (f : StridedFields) (l : Layout) → l ≡ layout_of (class_at k) → (a : Bool) (i : ℕ)
+      → i ≡ imm_of l.nreg l.imm4 f.multiple
       → a
-      ≡ ltb (f .rm) (l .rm) && ltb (f .pc) 8 && ltb (f .rn) 32 && ltb (f .first / 16) 2 && ltb (f .first % 16) (l .zt) && ltb i (l .imm4)
+      ≡ ltb f.rm l.rm && ltb f.pc 8 && ltb f.rn 32 && ltb (f.first / 16) 2 && ltb (f.first % 16) l.zt && ltb i l.imm4
       → a ≡ fits (class_at k) (Strided f)
   unfolding fits every
   strided-fit e f l g a i q p =
       let s = striding k h e in
-      let pc = sym (s .pc) in
-      let rn = sym (s .rn) in
-      let t = sym (s .t) in
+      let pc = sym s.pc in
+      let rn = sym s.rn in
+      let t = sym s.t in
       p
-      ∙ and6 (ltb (f .rm) (l .rm)) (ltb (f .pc) 8) (ltb (f .rn) 32) (ltb (f .first / 16) 2) (ltb (f .first % 16) (l .zt)) (ltb i (l .imm4))
+      ∙ and6 (ltb f.rm l.rm) (ltb f.pc 8) (ltb f.rn 32) (ltb (f.first / 16) 2) (ltb (f.first % 16) l.zt) (ltb i l.imm4)
       ∙ ap
       (λ (n : ℕ).
-      ltb (f .rm) (l .rm)
-      && (ltb (f .pc) 8 && (ltb (f .rn) 32 && true))
-      && not (not (ltb (f .first / 16) 2 && ltb (f .first % 16) (l .zt)) || not (ltb n (l .imm4)))
+      ltb f.rm l.rm
+      && (ltb f.pc 8 && (ltb f.rn 32 && true))
+      && not (not (ltb (f.first / 16) 2 && ltb (f.first % 16) l.zt) || not (ltb n l.imm4))
       && true)
       q
       ∙ (λ j.
-      ltb (f .rm) (g j .rm)
-      && (ltb (f .pc) (2 ^ pc j) && (ltb (f .rn) (2 ^ rn j) && true))
+      ltb f.rm (g j).rm
+      && (ltb f.pc (2 ^ pc j) && (ltb f.rn (2 ^ rn j) && true))
       && not
-      (not (ltb (f .first / 16) (2 ^ t j) && ltb (f .first % 16) (g j .zt))
-      || not (ltb (imm_of (g j .nreg) (g j .imm4) (f .multiple)) (g j .imm4)))
+      (not (ltb (f.first / 16) (2 ^ t j) && ltb (f.first % 16) (g j).zt)
+      || not (ltb (imm_of (g j).nreg (g j).imm4 f.multiple) (g j).imm4))
       && true)
 
-  pub quadword-fit : class_at k .feature ≡ SVE2p1 → (f : QuadwordFields) (a : Bool)
-      → a ≡ ltb (f .rm) 32 && ltb (f .pg) 8 && ltb (f .zn) 32 && ltb (f .zt) 32
+  pub quadword-fit : (class_at k).feature ≡ SVE2p1 → (f : QuadwordFields) (a : Bool)
+      → a ≡ ltb f.rm 32 && ltb f.pg 8 && ltb f.zn 32 && ltb f.zt 32
       → a ≡ fits (class_at k) (Quadword f)
   unfolding fits every
   quadword-fit e f a p =
       let s = quad k h e in
-      let rm = sym (s .first) in
-      let pg = sym (s .pg) in
-      let zn = sym (s .second) in
-      let zt = sym (s .zt) in
+      let rm = sym s.first in
+      let pg = sym s.pg in
+      let zn = sym s.second in
+      let zt = sym s.zt in
       p
-      ∙ and4 (ltb (f .rm) 32) (ltb (f .pg) 8) (ltb (f .zn) 32) (ltb (f .zt) 32)
-      ∙ (λ i. ltb (f .rm) (2 ^ rm i) && (ltb (f .pg) (2 ^ pg i) && (ltb (f .zn) (2 ^ zn i) && (ltb (f .zt) (2 ^ zt i) && true))))
+      ∙ and4 (ltb f.rm 32) (ltb f.pg 8) (ltb f.zn 32) (ltb f.zt 32)
+      ∙ (λ i. ltb f.rm (2 ^ rm i) && (ltb f.pg (2 ^ pg i) && (ltb f.zn (2 ^ zn i) && (ltb f.zt (2 ^ zt i) && true))))
       ∙ sym (and-true _)
       ∙ sym (and-true _)
 
-pub scatter-word : (c : Class) (f : ScatterFields) (b x s : ℕ) → b ≡ c .base → x ≡ xs_of (f .extension)
-    → s ≡ f .zm * 65536 + x * 16384 + f .pg * 1024 + f .rn * 32 + f .zt → b + s ≡ c .base + placed (values_in c (Scatter f))
+pub scatter-word : (c : Class) (f : ScatterFields) (b x s : ℕ) → b ≡ c.base → x ≡ xs_of f.extension
+    → s ≡ f.zm * 65536 + x * 16384 + f.pg * 1024 + f.rn * 32 + f.zt → b + s ≡ c.base + placed (values_in c (Scatter f))
 scatter-word c f b x s p q r = omega arith
 
-pub strided-word : (c : Class) (f : StridedFields) (l : Layout) (b i s : ℕ) → l ≡ layout_of c → b ≡ c .base
-    → i ≡ imm_of (l .nreg) (l .imm4) (f .multiple)
-    → s ≡ f .rm * 65536 + i * 65536 + f .pc * 1024 + f .rn * 32 + f .first → b + s ≡ c .base + placed (values_in c (Strided f))
+pub strided-word : (c : Class) (f : StridedFields) (l : Layout) (b i s : ℕ) → l ≡ layout_of c → b ≡ c.base
+    → i ≡ imm_of l.nreg l.imm4 f.multiple
+    → s ≡ f.rm * 65536 + i * 65536 + f.pc * 1024 + f.rn * 32 + f.first → b + s ≡ c.base + placed (values_in c (Strided f))
 strided-word c f l b i s g p q r =
-    let v : i ≡ imm_of (c .nreg) (2 ^ width c imm4) (f .multiple) = q ∙ ap (λ (y : Layout). imm_of (y .nreg) (y .imm4) (f .multiple)) g in
-    let z : f .first % 16 * 2 ^ low (zt_of c) ≡ f .first % 16 * 1 = ap (λ (n : ℕ). f .first % 16 * 2 ^ n) (zt-low c) in
+    let v : i ≡ imm_of c.nreg (2 ^ width c imm4) f.multiple = q ∙ ap (λ (y : Layout). imm_of y.nreg y.imm4 f.multiple) g in
+    let z : f.first % 16 * 2 ^ low (zt_of c) ≡ f.first % 16 * 1 = ap (λ (n : ℕ). f.first % 16 * 2 ^ n) (zt-low c) in
     omega arith
 
-pub quadword-word : (c : Class) (f : QuadwordFields) (b s : ℕ) → b ≡ c .base
-    → s ≡ f .rm * 65536 + f .pg * 1024 + f .zn * 32 + f .zt → b + s ≡ c .base + placed (values_in c (Quadword f))
+pub quadword-word : (c : Class) (f : QuadwordFields) (b s : ℕ) → b ≡ c.base
+    → s ≡ f.rm * 65536 + f.pg * 1024 + f.zn * 32 + f.zt → b + s ≡ c.base + placed (values_in c (Quadword f))
 quadword-word c f b s p q = omega arith

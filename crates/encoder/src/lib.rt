@@ -1,26 +1,16 @@
 // The word that a decoded store is, or verdict 11.
-ghost use mathlib.Core.Path.{_≡_};
-ghost use mathlib.Core.Bool.{not, _&&_};
-ghost use Prim.Native.Nat.{_+_, _*_, _/_, _%_, _<_, _≤_};
-ghost use lib.Dec.{ltb};
-ghost use Rattle·encoding.specs.Encoding.{encode_of, imm_of, misextends, xs_of};
-use encoding::Encoded;
-use encoding::Extension;
-use encoding::Feature;
-use encoding::Layout;
-use encoding::QuadwordFields;
-use encoding::ScatterFields;
-use encoding::Store;
-use encoding::StridedFields;
-use encoding::multiple;
-use encoding::table::CLASSES;
-use encoding::table::base_of;
-use encoding::table::layout_of;
-use encoding::table::row_of;
+ghost use Rattle.std.specs.Prelude.{◌≡◌, not, ◌&&◌, ◌+◌, ◌*◌, ◌/◌, ◌%◌, ◌<◌, ◌≤◌, ltb};
+ghost use Rattle.encoding.specs.Encoding.{encode_of, imm_of, misextends, xs_of};
+
+use encoding::table::{CLASSES, base_of, layout_of, row_of};
+use encoding::{
+    Encoded, Extension, Feature, Layout, QuadwordFields, ScatterFields, Store, StridedFields,
+    multiple,
+};
 
 // Whether a class that has an extension, or has none, can have this one.
 fn extends(has: bool, extension: Extension) -> bool
-    ensures { λ r. ⌜ r ≡ not (misextends has extension) ⌝ }
+    ensures { result ≡ not (misextends has extension) }
 {
     match extension {
         Extension::None => !has,
@@ -30,8 +20,8 @@ fn extends(has: bool, extension: Extension) -> bool
 }
 
 fn xs_of(extension: Extension) -> u32
-    ensures is { λ r. ⌜ r ≡ xs_of extension ⌝ }
-    ensures bounded { λ r. ⌜ r < 2 ⌝ }
+    ensures is { result ≡ xs_of extension }
+    ensures bounded { result < 2 }
 {
     match extension {
         Extension::None => 0,
@@ -42,8 +32,8 @@ fn xs_of(extension: Extension) -> u32
 
 // Of n values of imm4, the one whose multiple z is; n where none is.
 fn imm4_of(nreg: u32, n: u32, z: i64) -> u8
-    requires { ⌜ (nreg ≤ 4) × (n ≤ 16) ⌝ }
-    ensures { λ r. ⌜ r ≡ imm_of nreg n z ⌝ }
+    requires { (nreg ≤ 4) × (n ≤ 16) }
+    ensures { result ≡ imm_of nreg n z }
 {
     let mut v: u8 = 0;
     while (v as u32) < n {
@@ -57,21 +47,21 @@ fn imm4_of(nreg: u32, n: u32, z: i64) -> u8
 }
 
 fn scatter_fits(f: ScatterFields) -> bool
-    ensures { λ r. ⌜ r ≡ (ltb (f .zm) 32 && ltb (f .pg) 8 && ltb (f .rn) 32 && ltb (f .zt) 32) ⌝ }
+    ensures { result ≡ (ltb f.zm 32 && ltb f.pg 8 && ltb f.rn 32 && ltb f.zt 32) }
 {
     (f.zm < 32) & (f.pg < 8) & (f.rn < 32) & (f.zt < 32)
 }
 
 fn scatter_sum(f: ScatterFields, xs: u32) -> u32
-    requires { ⌜ xs < 2 ⌝ }
-    ensures is { λ r. ⌜ r ≡ f .zm * 65536 + xs * 16384 + f .pg * 1024 + f .rn * 32 + f .zt ⌝ }
-    ensures bounded { λ r. ⌜ r < 0x4000000 ⌝ }
+    requires { xs < 2 }
+    ensures is { result ≡ f.zm * 65536 + xs * 16384 + f.pg * 1024 + f.rn * 32 + f.zt }
+    ensures bounded { result < 0x4000000 }
 {
     f.zm as u32 * 65536 + xs * 16384 + f.pg as u32 * 1024 + f.rn as u32 * 32 + f.zt as u32
 }
 
 fn encode_scatter(f: ScatterFields) -> Encoded
-    ensures { λ r. ⌜ r ≡ encode_of (Store.Scatter f) ⌝ }
+    ensures { result ≡ encode_of (Store.Scatter f) }
 {
     let k = row_of(f.class, Feature::SVE);
     if CLASSES <= k {
@@ -87,8 +77,8 @@ fn encode_scatter(f: ScatterFields) -> Encoded
 }
 
 fn strided_fits(f: StridedFields, imm4: u8, layout: Layout) -> bool
-    ensures { λ r. ⌜ r ≡ (ltb (f .rm) (layout .rm) && ltb (f .pc) 8 && ltb (f .rn) 32
-        && ltb (f .first / 16) 2 && ltb (f .first % 16) (layout .zt) && ltb imm4 (layout .imm4)) ⌝ }
+    ensures { result ≡ (ltb f.rm layout.rm && ltb f.pc 8 && ltb f.rn 32
+        && ltb (f.first / 16) 2 && ltb (f.first % 16) layout.zt && ltb imm4 layout.imm4) }
 {
     ((f.rm as u32) < layout.rm)
         & (f.pc < 8)
@@ -99,8 +89,8 @@ fn strided_fits(f: StridedFields, imm4: u8, layout: Layout) -> bool
 }
 
 fn strided_sum(f: StridedFields, imm4: u8) -> u32
-    ensures is { λ r. ⌜ r ≡ f .rm * 65536 + imm4 * 65536 + f .pc * 1024 + f .rn * 32 + f .first ⌝ }
-    ensures bounded { λ r. ⌜ r < 0x4000000 ⌝ }
+    ensures is { result ≡ f.rm * 65536 + imm4 * 65536 + f.pc * 1024 + f.rn * 32 + f.first }
+    ensures bounded { result < 0x4000000 }
 {
     f.rm as u32 * 65536
         + imm4 as u32 * 65536
@@ -110,7 +100,7 @@ fn strided_sum(f: StridedFields, imm4: u8) -> u32
 }
 
 fn encode_strided(f: StridedFields) -> Encoded
-    ensures { λ r. ⌜ r ≡ encode_of (Store.Strided f) ⌝ }
+    ensures { result ≡ encode_of (Store.Strided f) }
 {
     let k = row_of(f.class, Feature::SME2);
     if CLASSES <= k {
@@ -126,20 +116,20 @@ fn encode_strided(f: StridedFields) -> Encoded
 }
 
 fn quadword_fits(f: QuadwordFields) -> bool
-    ensures { λ r. ⌜ r ≡ (ltb (f .rm) 32 && ltb (f .pg) 8 && ltb (f .zn) 32 && ltb (f .zt) 32) ⌝ }
+    ensures { result ≡ (ltb f.rm 32 && ltb f.pg 8 && ltb f.zn 32 && ltb f.zt 32) }
 {
     (f.rm < 32) & (f.pg < 8) & (f.zn < 32) & (f.zt < 32)
 }
 
 fn quadword_sum(f: QuadwordFields) -> u32
-    ensures is { λ r. ⌜ r ≡ f .rm * 65536 + f .pg * 1024 + f .zn * 32 + f .zt ⌝ }
-    ensures bounded { λ r. ⌜ r < 0x4000000 ⌝ }
+    ensures is { result ≡ f.rm * 65536 + f.pg * 1024 + f.zn * 32 + f.zt }
+    ensures bounded { result < 0x4000000 }
 {
     f.rm as u32 * 65536 + f.pg as u32 * 1024 + f.zn as u32 * 32 + f.zt as u32
 }
 
 fn encode_quadword(f: QuadwordFields) -> Encoded
-    ensures { λ r. ⌜ r ≡ encode_of (Store.Quadword f) ⌝ }
+    ensures { result ≡ encode_of (Store.Quadword f) }
 {
     let k = row_of(f.class, Feature::SVE2p1);
     if CLASSES <= k {
@@ -154,7 +144,7 @@ fn encode_quadword(f: QuadwordFields) -> Encoded
 
 // The word that a store is, or a refusal of its fields.
 pub fn encode(store: Store) -> Encoded
-    ensures { λ r. ⌜ r ≡ encode_of store ⌝ }
+    ensures { result ≡ encode_of store }
 {
     match store {
         Store::Scatter(f) => encode_scatter(f),

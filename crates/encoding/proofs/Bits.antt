@@ -1,18 +1,18 @@
 -- Bits of a number, and sums of numbers that share none. Assumes nothing.
-use mathlib.Core.Path.{_≡_, refl, sym, ap, _∙_, subst}
-use Prim.Native.Nat.{ℕ, zero, suc, _+_, _*_, _/_, _%_, _^_, _<_, min}
-use native.Mathlib.Nat.{mod-lt, mod-eq-of-lt, lt-of-le-of-lt, pow-suc}
+use mathlib.Core.Path.{◌≡◌, refl, sym, ap, ◌∙◌, subst}
+use Prim.Native.Nat.{ℕ, zero, suc, ◌+◌, ◌*◌, ◌/◌, ◌%◌, ◌^◌, ◌<◌, min}
+use native.Mathlib.Nat.{mod-lt, mod-eq_of_lt, lt_of_le_of_lt, pow-suc}
 use native.Mathlib.Numerals.{one-add}
 use native.Mathlib.Omega.{arith}
-use lib.Arith.{digits-mod, lt-one}
-use lib.Bits.{bit_and, and-step, and-le-r, and-block, and-mod, and-shr}
-use lib.Pow.{pow-pos, shr-shr, split}
-use Rattle·encoding·specs.specs.Classes.{bit}
+use lib.Arith.{digits_mod, lt-one}
+use lib.Bits.{bit_and, and_step, and_le_r, and_block, and_mod, and_shr}
+use lib.Pow.{pow_pos, shr-shr, split}
+use Rattle.encoding.specs.Classes.{bit}
 
 pub bit-and : (a b i : ℕ) → bit (bit_and a b) i ≡ min (bit a i) (bit b i)
 bit-and a b i =
-    ap (λ (n : ℕ). n % 2) (and-shr a b i ∙ and-step (a / 2 ^ i) (b / 2 ^ i))
-    ∙ digits-mod (bit_and (a / 2 ^ i / 2) (b / 2 ^ i / 2)) (omega arith)
+    ap (λ (n : ℕ). n % 2) (and_shr a b i ∙ and_step (a / 2 ^ i) (b / 2 ^ i))
+    ∙ digits_mod (bit_and (a / 2 ^ i / 2) (b / 2 ^ i / 2)) (omega arith)
 
 bit-suc : (a i : ℕ) → bit a (suc i) ≡ bit (a / 2) i
 bit-suc a i = ap (λ (n : ℕ). n % 2) (ap (λ (k : ℕ). a / 2 ^ k) (sym (one-add i)) ∙ sym (shr-shr a 1 i))
@@ -30,24 +30,24 @@ bits-equal (suc n) a b ha hb e =
     omega arith
 
 -- a number's bits above k do not meet one below 2 ^ k
-pub and-below : (k x y : ℕ) → y < 2 ^ k → bit_and (x % 2 ^ k) y ≡ bit_and x y
-and-below k x y h =
-    ap (bit_and (x % 2 ^ k)) (sym (mod-eq-of-lt h)) ∙ sym (and-mod x y k) ∙ mod-eq-of-lt (lt-of-le-of-lt (and-le-r x y) h)
+pub and_below : (k x y : ℕ) → y < 2 ^ k → bit_and (x % 2 ^ k) y ≡ bit_and x y
+and_below k x y h =
+    ap (bit_and (x % 2 ^ k)) (sym (mod-eq_of_lt h)) ∙ sym (and_mod x y k) ∙ mod-eq_of_lt (lt_of_le_of_lt (and_le_r x y) h)
 
 -- what stands above bit k, and the rest
 pub and-head : (k x v r : ℕ) → r < 2 ^ k → bit_and x (v * 2 ^ k + r) ≡ bit_and (x / 2 ^ k) v * 2 ^ k + bit_and x r
 and-head k x v r h =
     ap (λ (n : ℕ). bit_and n (v * 2 ^ k + r)) (sym (split x k))
-    ∙ and-block k (x / 2 ^ k) v (x % 2 ^ k) r (mod-lt x (pow-pos k)) h
-    ∙ ap (λ (n : ℕ). bit_and (x / 2 ^ k) v * 2 ^ k + n) (and-below k x r h)
+    ∙ and_block k (x / 2 ^ k) v (x % 2 ^ k) r (mod-lt x (pow_pos k)) h
+    ∙ ap (λ (n : ℕ). bit_and (x / 2 ^ k) v * 2 ^ k + n) (and_below k x r h)
 
 -- a mask that is a sum of two with no bit in common
 pub and-add : (n w a b : ℕ) → w < 2 ^ n → bit_and a b ≡ 0 → bit_and w (a + b) ≡ bit_and w a + bit_and w b
 and-add zero w a b h e = subst (λ (x : ℕ). bit_and x (a + b) ≡ bit_and x a + bit_and x b) (sym (lt-one h)) refl
 and-add (suc n) w a b h e =
-    let s = and-step a b in
+    let s = and_step a b in
     let hi : (a + b) / 2 ≡ a / 2 + b / 2 = omega arith in
     let lo : (a + b) % 2 ≡ a % 2 + b % 2 = omega arith in
     let k : bit_and (w / 2) ((a + b) / 2) ≡ bit_and (w / 2) (a / 2) + bit_and (w / 2) (b / 2) =
     ap (bit_and (w / 2)) hi ∙ and-add n (w / 2) (a / 2) (b / 2) (half n w h) (omega arith) in
-    omega (arith, and-step w (a + b), and-step w a, and-step w b)
+    omega (arith, and_step w (a + b), and_step w a, and_step w b)

@@ -1,30 +1,30 @@
 -- The eight numbers of a decoded store are read off the word's bits. Assumes nothing.
-use mathlib.Core.Path.{_≡_, refl, sym, ap, ap₂, _∙_, subst}
-use mathlib.Core.Bool.{Bool, true, false, not, cond, _||_}
-use mathlib.Core.List.{List, [], _∷_}
-use Prim.Native.Nat.{ℕ, zero, suc, _+_, _-_, _*_, _/_, _%_, _^_, _≤_, _<_}
+use mathlib.Core.Path.{◌≡◌, refl, sym, ap, ap₂, ◌∙◌, subst}
+use mathlib.Core.Bool.{Bool, true, false, not, cond, ◌||◌}
+use mathlib.Core.List.{List, [], ◌∷◌}
+use Prim.Native.Nat.{ℕ, zero, suc, ◌+◌, ◌-◌, ◌*◌, ◌/◌, ◌%◌, ◌^◌, ◌≤◌, ◌<◌}
 use native.Mathlib.Nat.{div-one, mod-one, zero-mul}
 use native.Mathlib.Omega.{arith}
-use lib.Dec.{T, eqb, ltb, eqb→eq, ltb→lt, T-not}
-use lib.IntN.{pos, negℤ}
+use lib.Dec.{T, eqb, ltb, eqb→eq, ltb→lt, T_not}
+use lib.IntN.{pos, neg_ℤ}
 use lib.ListN.{length}
 use mir.Syntax.{w64}
 use mir.Val.{of_z}
 use borrow.Author.Tests.{ltb-false}
-use Rattle·encoding·specs.specs.Classes as C
-use Rattle·encoding·specs.specs.Classes.{Zm, Rm, imm4, xs, Rn, Zn, Zt, Zt3, Class, no_class, classes, class_at, any, has, width}
-use Rattle·encoding·specs.specs.Classes.{bit, read}
-use Rattle·encoding·specs.specs.Decoding.{extension_of, multiple_of, zt_of, store_as, store_of}
-use Rattle·encoding·specs.specs.Answers.{decoded_number, decoded_numbers, extension_number, store_numbers}
-use Rattle·encoding·specs.specs.Statements.{multiple_bits, word_numbers, NumbersFromBits}
-use Rattle·encoding·specs.specs.declared.Extension.the-variants.{Uxtw, Sxtw}
-use Rattle·encoding·specs.specs.declared.Feature.{Feature}
-use Rattle·encoding·specs.specs.declared.Feature.the-variants.{SVE, SME2, SVE2p1}
-use Rattle·encoding·proofs.proofs.Tests.{holds, cond-true, cond-false, all, Facts, facts, every, every-at}
-use Rattle·encoding·proofs.proofs.Rows.{Vector, Striding, scattered, striding, quad}
-use Rattle·encoding·proofs.proofs.Signed.{multiple-low, multiple-high, mul-pos}
-use Rattle·encoding·proofs.proofs.Reading.{zt-whole}
-use Rattle·encoding·proofs.proofs.Statements.{decodes-its-class}
+use Rattle.encoding.specs.Classes as C
+use Rattle.encoding.specs.Classes.{Zm, Rm, imm4, xs, Rn, Zn, Zt, Zt3, Class, no_class, classes, class_at, any, has, width}
+use Rattle.encoding.specs.Classes.{bit, read}
+use Rattle.encoding.specs.Decoding.{extension_of, multiple_of, zt_of, store_as, store_of}
+use Rattle.encoding.specs.Answers.{decoded_number, decoded_numbers, extension_number, store_numbers}
+use Rattle.encoding.specs.Statements.{multiple_bits, word_numbers, NumbersFromBits}
+use Rattle.encoding.specs.declared.Extension.TheVariants.{Uxtw, Sxtw}
+use Rattle.encoding.specs.declared.Feature.{Feature}
+use Rattle.encoding.specs.declared.Feature.TheVariants.{SVE, SME2, SVE2p1}
+use Rattle.encoding.proofs.Tests.{holds, cond-true, cond-false, all, Facts, facts, every, every-at}
+use Rattle.encoding.proofs.Rows.{Vector, Striding, scattered, striding, quad}
+use Rattle.encoding.proofs.Signed.{multiple-low, multiple-high, mul-pos}
+use Rattle.encoding.proofs.Reading.{zt-whole}
+use Rattle.encoding.proofs.Statements.{decodes-its-class}
 
 -- ---- one number
 
@@ -51,7 +51,7 @@ extension : (h : Bool) (w : ℕ) → extension_number (extension_of h (w / 2 ^ 1
 extension true w = code (w / 2 ^ 14 % 2) (omega arith)
 extension false w = refl
 
-negative : (n : ℕ) → 0 < n → of_z w64 (negℤ (pos n)) ≡ 2 ^ 64 - n
+negative : (n : ℕ) → 0 < n → of_z w64 (neg_ℤ (pos n)) ≡ 2 ^ 64 - n
 negative zero h = absurd (omega arith)
 negative (suc n) h = refl
 
@@ -76,22 +76,22 @@ shape_as SVE c = has c Zm ∷ not (has c C.T) ∷ not (has c imm4) ∷ []
 shape_as SME2 c = not (has c Zm) ∷ not (has c xs) ∷ has c C.T ∷ eqb (width c (zt_of c)) (cond (has c Zt3) 3 2) ∷ []
 shape_as SVE2p1 c = not (has c Zm) ∷ not (has c xs) ∷ not (has c C.T) ∷ not (has c imm4) ∷ []
 
-all-shaped : T (every (λ c. all (shape_as (c .feature) c)) classes)
+all-shaped : T (every (λ c. all (shape_as c.feature c)) classes)
 unfolding every classes any has
 all-shaped = tt
 
-shaped-as : (k : ℕ) → k < length classes → (x : Feature) → class_at k .feature ≡ x → Facts (shape_as x (class_at k))
+shaped-as : (k : ℕ) → k < length classes → (x : Feature) → (class_at k).feature ≡ x → Facts (shape_as x (class_at k))
 unfolding class_at
 shaped-as k h x e =
     facts (shape_as x (class_at k))
     (subst (λ (y : Feature). T (all (shape_as y (class_at k)))) e
-    (every-at (λ c. all (shape_as (c .feature) c)) classes no_class all-shaped k h))
+    (every-at (λ c. all (shape_as c.feature c)) classes no_class all-shaped k h))
 
 -- ---- a store
 
 -- what a class lacks is 0
 none : (h : Bool) (x : ℕ) → T (not h) → 0 ≡ cond h x 0
-none h x t = sym (cond-false h x 0 (T-not h t))
+none h x t = sym (cond-false h x 0 (T_not h t))
 
 zt-bits : (b : Bool) → 2 ^ cond b 3 2 ≡ cond b (2 ^ 3) (2 ^ 2)
 zt-bits true = refl
@@ -110,53 +110,53 @@ module _ (c : Class) (w : ℕ) where
   -- entry 5 where it is Zt
   zt-is : width c Zt ≡ 5 → T (not (has c C.T))
       → read c Zt w ≡ cond (has c C.T) (bit w 4 * 16 + w % cond (has c Zt3) (2 ^ 3) (2 ^ 2)) (w % 2 ^ 5)
-  zt-is e t = ap₂ (λ (x n : ℕ). x % 2 ^ n) (div-one w) e ∙ sym (cond-false (has c C.T) _ (w % 2 ^ 5) (T-not (has c C.T) t))
+  zt-is e t = ap₂ (λ (x n : ℕ). x % 2 ^ n) (div-one w) e ∙ sym (cond-false (has c C.T) _ (w % 2 ^ 5) (T_not (has c C.T) t))
 
   scatter-numbers : Facts (shape_as SVE c) → Vector c Zm Rn → store_numbers (store_as SVE c w) ≡ word_numbers c w
   scatter-numbers (zm, (t, (m, u))) v =
       let e1 = zm-is zm in
       let e2 = extension (has c xs) w in
-      let e3 = v .pg in
-      let e4 = v .second in
-      let e5 = zt-is (v .zt) t in
-      let e6 = none (has c imm4) (multiple_bits (c .nreg) (w / 2 ^ 16 % 2 ^ 4)) m in
-      λ i. c .number ∷ e1 i ∷ e2 i ∷ w / 2 ^ 10 % 2 ^ e3 i ∷ w / 2 ^ 5 % 2 ^ e4 i ∷ e5 i ∷ e6 i ∷ 0 ∷ []
+      let e3 = v.pg in
+      let e4 = v.second in
+      let e5 = zt-is v.zt t in
+      let e6 = none (has c imm4) (multiple_bits c.nreg (w / 2 ^ 16 % 2 ^ 4)) m in
+      λ i. c.number ∷ e1 i ∷ e2 i ∷ w / 2 ^ 10 % 2 ^ e3 i ∷ w / 2 ^ 5 % 2 ^ e4 i ∷ e5 i ∷ e6 i ∷ 0 ∷ []
 
   quadword-numbers : Facts (shape_as SVE2p1 c) → Vector c Rm Zn → store_numbers (store_as SVE2p1 c w) ≡ word_numbers c w
   quadword-numbers (zm, (x, (t, (m, u)))) v =
       let e1 = rm-is zm in
       let e2 = none (has c xs) (1 + bit w 14) x in
-      let e3 = v .pg in
-      let e4 = v .second in
-      let e5 = zt-is (v .zt) t in
-      let e6 = none (has c imm4) (multiple_bits (c .nreg) (w / 2 ^ 16 % 2 ^ 4)) m in
-      λ i. c .number ∷ e1 i ∷ e2 i ∷ w / 2 ^ 10 % 2 ^ e3 i ∷ w / 2 ^ 5 % 2 ^ e4 i ∷ e5 i ∷ e6 i ∷ 0 ∷ []
+      let e3 = v.pg in
+      let e4 = v.second in
+      let e5 = zt-is v.zt t in
+      let e6 = none (has c imm4) (multiple_bits c.nreg (w / 2 ^ 16 % 2 ^ 4)) m in
+      λ i. c.number ∷ e1 i ∷ e2 i ∷ w / 2 ^ 10 % 2 ^ e3 i ∷ w / 2 ^ 5 % 2 ^ e4 i ∷ e5 i ∷ e6 i ∷ 0 ∷ []
 
   strided-numbers : Facts (shape_as SME2 c) → Striding c → store_numbers (store_as SME2 c w) ≡ word_numbers c w
   strided-numbers (zm, (x, (t, (z, u)))) v =
       let e1 = rm-is zm in
       let e2 = none (has c xs) (1 + bit w 14) x in
-      let e3 = v .pc in
-      let e4 = v .rn in
+      let e3 = v.pc in
+      let e4 = v.rn in
       let zt : read c (zt_of c) w ≡ w % cond (has c Zt3) (2 ^ 3) (2 ^ 2) =
       sym (zt-whole c w)
       ∙ ap (λ (n : ℕ). w % 2 ^ n) (eqb→eq (width c (zt_of c)) (cond (has c Zt3) 3 2) z)
       ∙ ap (λ (n : ℕ). w % n) (zt-bits (has c Zt3)) in
-      let e5 = ap₂ (λ (n x : ℕ). w / 2 ^ 4 % 2 ^ n * 16 + x) (v .t) zt ∙ sym (cond-true (has c C.T) _ (w % 2 ^ 5) t) in
-      let e6 = multiple-or-none (has c imm4) (c .nreg) (w / 2 ^ 16) (v .nreg) in
-      λ i. c .number ∷ e1 i ∷ e2 i ∷ w / 2 ^ 10 % 2 ^ e3 i ∷ w / 2 ^ 5 % 2 ^ e4 i ∷ e5 i ∷ e6 i ∷ 0 ∷ []
+      let e5 = ap₂ (λ (n x : ℕ). w / 2 ^ 4 % 2 ^ n * 16 + x) v.t zt ∙ sym (cond-true (has c C.T) _ (w % 2 ^ 5) t) in
+      let e6 = multiple-or-none (has c imm4) c.nreg (w / 2 ^ 16) v.nreg in
+      λ i. c.number ∷ e1 i ∷ e2 i ∷ w / 2 ^ 10 % 2 ^ e3 i ∷ w / 2 ^ 5 % 2 ^ e4 i ∷ e5 i ∷ e6 i ∷ 0 ∷ []
 
 module _ (k w : ℕ) (h : k < length classes) where
-  by-feature : (x : Feature) → class_at k .feature ≡ x → store_numbers (store_as x (class_at k) w) ≡ word_numbers (class_at k) w
+  by-feature : (x : Feature) → (class_at k).feature ≡ x → store_numbers (store_as x (class_at k) w) ≡ word_numbers (class_at k) w
   by-feature SVE e = scatter-numbers (class_at k) w (shaped-as k h SVE e) (scattered k h e)
   by-feature SME2 e = strided-numbers (class_at k) w (shaped-as k h SME2 e) (striding k h e)
   by-feature SVE2p1 e = quadword-numbers (class_at k) w (shaped-as k h SVE2p1 e) (quad k h e)
 
   pub store-numbers : store_numbers (store_of (class_at k) w) ≡ word_numbers (class_at k) w
   unfolding store_of
-  store-numbers = by-feature (class_at k .feature) refl
+  store-numbers = by-feature (class_at k).feature refl
 
 pub numbers_from_bits : NumbersFromBits
 numbers_from_bits k w h b =
-    let e = decodes-its-class k w h .1 b in
+    let e = (decodes-its-class k w h).1 b in
     (ap decoded_number e, ap decoded_numbers e ∙ store-numbers k w h)

@@ -1,17 +1,17 @@
 -- The first class that passes a test, and the lowest number that does. Assumes nothing.
-use mathlib.Core.Path.{_≡_, refl, sym, ap, _∙_, subst}
+use mathlib.Core.Path.{◌≡◌, refl, sym, ap, ◌∙◌, subst}
 use mathlib.Core.Bool.{Bool, true, false, cond}
-use mathlib.Core.List.{List, [], _∷_}
-use mathlib.Core.Logic.{⊎-elim}
-use Prim.Native.Nat.{ℕ, zero, suc, _<_}
-use native.Mathlib.Nat.{not-suc-le-zero, le-of-suc-le-suc, eq-or-lt-of-le, zero-lt-suc}
+use mathlib.Core.List.{List, [], ◌∷◌}
+use mathlib.Core.Logic.{⊎_elim}
+use Prim.Native.Nat.{ℕ, zero, suc, ◌<◌}
+use native.Mathlib.Nat.{not-suc-le-zero, le_of_suc-le-suc, eq-or-lt_of_le, zero-lt-suc}
 use native.Mathlib.Omega.{arith}
 use lib.Dec.{T, ltb, ltb→lt, lt→ltb}
 use borrow.Author.Tests.{ltb-false}
 use lib.ListN.{length, get_or}
-use Rattle·encoding·specs.specs.Classes.{Class, position}
-use Rattle·encoding·specs.specs.Encoding.{lowest}
-use Rattle·encoding·proofs.proofs.Tests.{cond-true, cond-false}
+use Rattle.encoding.specs.Classes.{Class, position}
+use Rattle.encoding.specs.Encoding.{lowest}
+use Rattle.encoding.proofs.Tests.{cond-true, cond-false}
 
 -- ---- in a list of classes
 
@@ -23,19 +23,19 @@ module _ (p : Class → Bool) (d : Class) where
       cond-false (p c) 0 (suc (position p cs)) (f 0 (zero-lt-suc (length cs)))
       ∙ ap suc (position-none cs (λ j h. f (suc j) (omega arith)))
 
-  pub position-at : (cs : List Class) (k : ℕ) → k < length cs → T (p (get_or cs k d)) → ((j : ℕ) → j < k → T (p (get_or cs j d)) → ⊥)
+  pub position_at : (cs : List Class) (k : ℕ) → k < length cs → T (p (get_or cs k d)) → ((j : ℕ) → j < k → T (p (get_or cs j d)) → ⊥)
       → position p cs ≡ k
   unfolding position
-  position-at [] k h t f = absurd (not-suc-le-zero h)
-  position-at (c ∷ cs) zero h t f = cond-true (p c) 0 (suc (position p cs)) t
-  position-at (c ∷ cs) (suc k) h t f =
+  position_at [] k h t f = absurd (not-suc-le-zero h)
+  position_at (c ∷ cs) zero h t f = cond-true (p c) 0 (suc (position p cs)) t
+  position_at (c ∷ cs) (suc k) h t f =
       cond-false (p c) 0 (suc (position p cs)) (f 0 (zero-lt-suc k))
-      ∙ ap suc (position-at cs k (le-of-suc-le-suc h) t (λ j l. f (suc j) (omega arith)))
+      ∙ ap suc (position_at cs k (le_of_suc-le-suc h) t (λ j l. f (suc j) (omega arith)))
 
   -- where one class alone passes
   pub position-only : (cs : List Class) (k : ℕ) → k < length cs → T (p (get_or cs k d))
       → ((j : ℕ) → j < length cs → T (p (get_or cs j d)) → j ≡ k) → position p cs ≡ k
-  position-only cs k h t f = position-at cs k h t (λ j l u. let e = f j (omega arith) u in omega arith)
+  position-only cs k h t f = position_at cs k h t (λ j l u. let e = f j (omega arith) u in omega arith)
 
   pub position-holds : (cs : List Class) → position p cs < length cs → T (p (get_or cs (position p cs) d))
   unfolding position
@@ -45,7 +45,7 @@ module _ (p : Class → Bool) (d : Class) where
       go : (b : Bool) → p c ≡ b → (position p cs < length cs → T (p (get_or cs (position p cs) d)))
           → cond b 0 (suc (position p cs)) < suc (length cs) → T (p (get_or (c ∷ cs) (cond b 0 (suc (position p cs))) d))
       go true e rest l = subst T (sym e) tt
-      go false e rest l = rest (le-of-suc-le-suc l)
+      go false e rest l = rest (le_of_suc-le-suc l)
 
 -- ---- among numbers
 
@@ -62,7 +62,7 @@ module _ (p : ℕ → Bool) where
   unfolding lowest
   lowest-at zero k h t f = absurd (not-suc-le-zero h)
   lowest-at (suc n) k h t f =
-      ⊎-elim
+      ⊎_elim
       (λ e.
       cond-false (ltb (lowest p n) n) (lowest p n) (cond (p n) n (suc n))
       (λ u. omega (arith, ltb→lt (lowest p n) n u, lowest-none n (λ j l. f j (omega arith))))
@@ -71,7 +71,7 @@ module _ (p : ℕ → Bool) where
       (λ l.
       let e = lowest-at n k l t f in
       cond-true (ltb (lowest p n) n) (lowest p n) (cond (p n) n (suc n)) (lt→ltb (lowest p n) n (omega arith)) ∙ e)
-      (eq-or-lt-of-le (le-of-suc-le-suc h))
+      (eq-or-lt_of_le (le_of_suc-le-suc h))
 
   pub lowest-only : (n k : ℕ) → k < n → T (p k) → ((j : ℕ) → j < n → T (p j) → j ≡ k) → lowest p n ≡ k
   lowest-only n k h t f = lowest-at n k h t (λ j l u. let e = f j (omega arith) u in omega arith)
@@ -98,5 +98,5 @@ module _ (p : ℕ → Bool) where
       go true q e f rest l = rest l
       go false true e f rest l = rest (omega (arith, ltb-false (lowest p n) n e))
       go false false e f rest l =
-          ⊎-elim (λ k. subst T (ap p k ∙ f) t) (λ k. rest (omega (arith, ltb-false (lowest p n) n e)))
-          (eq-or-lt-of-le (le-of-suc-le-suc l))
+          ⊎_elim (λ k. subst T (ap p k ∙ f) t) (λ k. rest (omega (arith, ltb-false (lowest p n) n e)))
+          (eq-or-lt_of_le (le_of_suc-le-suc l))

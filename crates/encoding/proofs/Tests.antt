@@ -1,15 +1,15 @@
 -- Tests: choices by a test, a test at some element, at every number below n. Assumes nothing.
-use mathlib.Core.Path.{_≡_, refl, sym, subst}
-use mathlib.Core.Bool.{Bool, true, false, cond, _&&_}
-use mathlib.Core.List.{List, [], _∷_}
-use Prim.Native.Nat.{ℕ, zero, suc, _<_}
-use native.Mathlib.Nat.{not-suc-le-zero, le-of-suc-le-suc}
+use mathlib.Core.Path.{◌≡◌, refl, sym, subst}
+use mathlib.Core.Bool.{Bool, true, false, cond, ◌&&◌}
+use mathlib.Core.List.{List, [], ◌∷◌}
+use Prim.Native.Nat.{ℕ, zero, suc, ◌<◌}
+use native.Mathlib.Nat.{not-suc-le-zero, le_of_suc-le-suc}
 use native.Mathlib.Omega.{arith}
 use lib.Dec.{T}
-use lib.Ieee.Fits.{and-i, and-l, and-r}
+use lib.Ieee.Fits.{and_i, and_l, and_r}
 use lib.ListN.{length, get_or}
-use borrow.Author.Count.{below-more}
-use Rattle·encoding·specs.specs.Classes.{every_below}
+use borrow.Author.Count.{below_more}
+use Rattle.encoding.specs.Classes.{every_below}
 
 pub yes : (b : Bool) → T b → b ≡ true
 yes true t = refl
@@ -26,7 +26,7 @@ pub fails : {b : Bool} → b ≡ false → T b → ⊥
 fails e t = subst T e t
 
 -- 0 is not 1
-pub absurdly : {A : Type 0} → _≡_ {A = ℕ} 0 1 → A
+pub absurdly : {A : Type 0} → ◌≡◌ {A = ℕ} 0 1 → A
 absurdly e = absurd (omega (arith, e))
 
 -- ---- tests one after the other
@@ -41,11 +41,11 @@ Facts (b ∷ bs) = T b × Facts bs
 
 pub facts : (bs : List Bool) → T (all bs) → Facts bs
 facts [] t = tt
-facts (b ∷ bs) t = (and-l b (all bs) t, facts bs (and-r b (all bs) t))
+facts (b ∷ bs) t = (and_l b (all bs) t, facts bs (and_r b (all bs) t))
 
 pub made : (bs : List Bool) → Facts bs → T (all bs)
 made [] f = tt
-made (b ∷ bs) f = and-i b (all bs) (f .0) (made bs (f .1))
+made (b ∷ bs) f = and_i b (all bs) f.0 (made bs f.1)
 
 -- in the order in which `a && b && c` is read
 abbrev pub all_of : Bool → List Bool → Bool
@@ -56,11 +56,11 @@ pub told : (a : Bool) (bs : List Bool) → T (all_of a bs) → Facts (a ∷ bs)
 told a [] t = (t, tt)
 told a (b ∷ bs) t =
     let r = told (a && b) bs t in
-    (and-l a b (r .0), (and-r a b (r .0), r .1))
+    (and_l a b r.0, (and_r a b r.0, r.1))
 
 pub telling : (a : Bool) (bs : List Bool) → Facts (a ∷ bs) → T (all_of a bs)
-telling a [] f = f .0
-telling a (b ∷ bs) f = telling (a && b) bs (and-i a b (f .0) (f .1 .0), f .1 .1)
+telling a [] f = f.0
+telling a (b ∷ bs) f = telling (a && b) bs (and_i a b f.0 f.1.0, f.1.1)
 
 module _ {ℓ} {A : Type ℓ} where
   pub cond-true : (b : Bool) (x y : A) → T b → cond b x y ≡ x
@@ -80,18 +80,18 @@ every p (x ∷ l) = p x && every p l
 pub every-at : {A : Type 0} (p : A → Bool) (l : List A) (d : A) → T (every p l) → (k : ℕ) → k < length l → T (p (get_or l k d))
 unfolding every
 every-at p [] d t k h = absurd (not-suc-le-zero h)
-every-at p (x ∷ l) d t zero h = and-l (p x) (every p l) t
-every-at p (x ∷ l) d t (suc k) h = every-at p l d (and-r (p x) (every p l) t) k (le-of-suc-le-suc h)
+every-at p (x ∷ l) d t zero h = and_l (p x) (every p l) t
+every-at p (x ∷ l) d t (suc k) h = every-at p l d (and_r (p x) (every p l) t) k (le_of_suc-le-suc h)
 
 -- ---- a test at every number below n
 
-pub below-at : (n : ℕ) (p : ℕ → Bool) → T (every_below n p) → (i : ℕ) → i < n → T (p i)
+pub below_at : (n : ℕ) (p : ℕ → Bool) → T (every_below n p) → (i : ℕ) → i < n → T (p i)
 unfolding every_below
-below-at zero p t i h = absurd (not-suc-le-zero h)
-below-at (suc n) p t i h =
-    below-more (λ (k : ℕ). T (p k)) n (below-at n p (and-r (p n) (every_below n p) t)) (and-l (p n) (every_below n p) t) i (omega arith)
+below_at zero p t i h = absurd (not-suc-le-zero h)
+below_at (suc n) p t i h =
+    below_more (λ (k : ℕ). T (p k)) n (below_at n p (and_r (p n) (every_below n p) t)) (and_l (p n) (every_below n p) t) i (omega arith)
 
-pub below-all : (n : ℕ) (p : ℕ → Bool) → ((i : ℕ) → i < n → T (p i)) → T (every_below n p)
+pub below_all : (n : ℕ) (p : ℕ → Bool) → ((i : ℕ) → i < n → T (p i)) → T (every_below n p)
 unfolding every_below
-below-all zero p f = tt
-below-all (suc n) p f = and-i (p n) (every_below n p) (f n (omega arith)) (below-all n p (λ i h. f i (omega arith)))
+below_all zero p f = tt
+below_all (suc n) p f = and_i (p n) (every_below n p) (f n (omega arith)) (below_all n p (λ i h. f i (omega arith)))

@@ -1,12 +1,8 @@
 -- Document 01, 'The instructions covered': the fields and their places, the table of classes, and when a word belongs to one.
 -- Assumes nothing.
-use Prim.Native.Nat.{ℕ, zero, suc, _+_, _-_, _/_, _%_, _^_}
-use mathlib.Core.Bool.{Bool, true, false, cond, _&&_, _||_}
-use mathlib.Core.List.{List, [], _∷_}
-use lib.Dec.{eqb, leb}
-use lib.ListN.{get_or}
-use Rattle·encoding·specs.specs.declared.Feature.{Feature}
-use Rattle·encoding·specs.specs.declared.Feature.the-variants.{SVE, SME2, SVE2p1}
+use Rattle.std.specs.Prelude.{ℕ, zero, suc, ◌+◌, ◌-◌, ◌/◌, ◌%◌, ◌^◌, Bool, true, false, cond, ◌&&◌, ◌||◌, List, [], ◌∷◌, eqb, leb, get_or}
+use Rattle.encoding.specs.declared.Feature.{Feature}
+use Rattle.encoding.specs.declared.Feature.TheVariants.{SVE, SME2, SVE2p1}
 
 -- ---- fields and places
 
@@ -166,7 +162,7 @@ inside fs i = any (λ f. leb (low f) i && leb i (high f)) fs
 
 -- "A word belongs to a class when every bit outside the listed fields equals that bit of the base word."
 unfoldable pub belongs : Class → ℕ → Bool
-belongs c w = every_below 32 (λ i. inside (c .fields) i || eqb (bit w i) (bit (c .base) i))
+belongs c w = every_below 32 (λ i. inside c.fields i || eqb (bit w i) (bit c.base i))
 
 -- a class's mask: 1 at each of the 32 bits that lie outside its fields
 unfoldable pub mask_below : ℕ → List Field → ℕ
@@ -174,12 +170,12 @@ mask_below zero fs = 0
 mask_below (suc n) fs = cond (inside fs n) 0 (2 ^ n) + mask_below n fs
 
 unfoldable pub mask_of : Class → ℕ
-mask_of c = mask_below 32 (c .fields)
+mask_of c = mask_below 32 c.fields
 
 -- ---- fields of a class
 
 unfoldable pub has : Class → Field → Bool
-has c f = any (λ g. eqb (index f) (index g)) (c .fields)
+has c f = any (λ g. eqb (index f) (index g)) c.fields
 
 -- how many bits a field has in a class: none where the class lacks it
 abbrev pub width : Class → Field → ℕ

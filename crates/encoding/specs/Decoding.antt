@@ -1,19 +1,15 @@
 -- What a word is: document 01's decoded store. Assumes nothing.
-use Prim.Native.Nat.{ℕ, _+_, _*_}
-use mathlib.Core.Bool.{Bool, true, false, cond}
-use lib.Dec.{eqb, ltb}
-use lib.IntN.{ℤ, pos, _-ℤ_, _*ℤ_}
-use lib.ListN.{length}
-use Rattle·encoding·specs.specs.Classes.{Field, Zm, Rm, imm4, xs, Pg, Pc, Rn, Zn, Zt, T, Zt3, Zt2, Class, classes, class_at, position}
-use Rattle·encoding·specs.specs.Classes.{belongs, has, read}
-use Rattle·encoding·specs.specs.declared.Feature.{Feature}
-use Rattle·encoding·specs.specs.declared.Feature.the-variants.{SVE, SME2, SVE2p1}
-use Rattle·encoding·specs.specs.declared.Extension.{Extension}
-use Rattle·encoding·specs.specs.declared.Extension.the-variants.{None, Uxtw, Sxtw}
-use Rattle·encoding·specs.specs.declared.Store.{Store}
-use Rattle·encoding·specs.specs.declared.Store.the-variants.{Scatter, Strided, Quadword}
-use Rattle·encoding·specs.specs.declared.Decoded.{Decoded}
-use Rattle·encoding·specs.specs.declared.Decoded.the-variants.{Known, Undefined}
+use Rattle.std.specs.Prelude.{ℕ, ◌+◌, ◌*◌, Bool, true, false, cond, eqb, ltb, ℤ, pos, ◌-ℤ◌, ◌*ℤ◌, length}
+use Rattle.encoding.specs.Classes.{Field, Zm, Rm, imm4, xs, Pg, Pc, Rn, Zn, Zt, T, Zt3, Zt2, Class, classes, class_at, position}
+use Rattle.encoding.specs.Classes.{belongs, has, read}
+use Rattle.encoding.specs.declared.Feature.{Feature}
+use Rattle.encoding.specs.declared.Feature.TheVariants.{SVE, SME2, SVE2p1}
+use Rattle.encoding.specs.declared.Extension.{Extension}
+use Rattle.encoding.specs.declared.Extension.TheVariants.{None, Uxtw, Sxtw}
+use Rattle.encoding.specs.declared.Store.{Store}
+use Rattle.encoding.specs.declared.Store.TheVariants.{Scatter, Strided, Quadword}
+use Rattle.encoding.specs.declared.Decoded.{Decoded}
+use Rattle.encoding.specs.declared.Decoded.TheVariants.{Known, Undefined}
 
 -- "for classes with an offset extension whether that is UXTW (xs 0) or SXTW (xs 1)"; None where the class has no xs
 abbrev pub extension_of : Bool → ℕ → Extension
@@ -38,7 +34,7 @@ zt_of c = cond (has c Zt3) Zt3 Zt2
 abbrev pub store_as : Feature → Class → ℕ → Store
 store_as SVE c w =
     Scatter (record {
-      class = c .number;
+      class = c.number;
       zm = read c Zm w;
       extension = extension_of (has c xs) (read c xs w);
       pg = read c Pg w;
@@ -47,18 +43,18 @@ store_as SVE c w =
     })
 store_as SME2 c w =
     Strided (record {
-      class = c .number;
+      class = c.number;
       rm = read c Rm w;
-      multiple = multiple_of (c .nreg) (read c imm4 w);
+      multiple = multiple_of c.nreg (read c imm4 w);
       pc = read c Pc w;
       rn = read c Rn w;
       first = read c T w * 16 + read c (zt_of c) w;
     })
 store_as SVE2p1 c w =
-    Quadword (record { class = c .number; rm = read c Rm w; pg = read c Pg w; zn = read c Zn w; zt = read c Zt w })
+    Quadword (record { class = c.number; rm = read c Rm w; pg = read c Pg w; zn = read c Zn w; zt = read c Zt w })
 
 unfoldable pub store_of : Class → ℕ → Store
-store_of c w = store_as (c .feature) c w
+store_of c w = store_as c.feature c w
 
 -- the row in the list of the class that the word belongs to; the list's length where it belongs to none
 unfoldable pub index_of : ℕ → ℕ

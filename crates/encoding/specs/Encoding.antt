@@ -1,28 +1,23 @@
 -- The word that a decoded store is, and the causes for which there is none: document 01's row 11. Assumes nothing.
-use Prim.Native.Nat.{ℕ, zero, suc, _+_, _*_, _/_, _%_, _^_}
-use mathlib.Core.Bool.{Bool, true, false, not, cond, _&&_, _||_}
-use mathlib.Core.List.{List, [], _∷_}
-use lib.Dec.{eqb, leb, ltb}
-use lib.IntN.{ℤ, pos, negsuc}
-use lib.ListN.{length}
-use Rattle·encoding·specs.specs.Classes.{Field, Zm, Rm, imm4, xs, Pg, Pc, Rn, Zn, Zt, T, low, size, flag, Class, classes, class_at}
-use Rattle·encoding·specs.specs.Classes.{position, any, has, width}
-use Rattle·encoding·specs.specs.declared.Feature.{Feature}
-use Rattle·encoding·specs.specs.declared.Feature.the-variants.{SVE, SME2, SVE2p1}
-use Rattle·encoding·specs.specs.Decoding.{multiple_of, zt_of}
-use Rattle·encoding·specs.specs.declared.Extension.{Extension}
-use Rattle·encoding·specs.specs.declared.Extension.the-variants.{None, Uxtw, Sxtw}
-use Rattle·encoding·specs.specs.declared.Store.{Store}
-use Rattle·encoding·specs.specs.declared.Store.the-variants.{Scatter, Strided, Quadword}
-use Rattle·encoding·specs.specs.declared.Encoded.{Encoded}
-use Rattle·encoding·specs.specs.declared.Encoded.the-variants.{Word, Fields}
+use Rattle.std.specs.Prelude.{ℕ, zero, suc, ◌+◌, ◌*◌, ◌/◌, ◌%◌, ◌^◌, Bool, true, false, not, cond, ◌&&◌, ◌||◌, List, [], ◌∷◌, eqb, leb, ltb, ℤ, pos, negsuc, length}
+use Rattle.encoding.specs.Classes.{Field, Zm, Rm, imm4, xs, Pg, Pc, Rn, Zn, Zt, T, low, size, flag, Class, classes, class_at}
+use Rattle.encoding.specs.Classes.{position, any, has, width}
+use Rattle.encoding.specs.declared.Feature.{Feature}
+use Rattle.encoding.specs.declared.Feature.TheVariants.{SVE, SME2, SVE2p1}
+use Rattle.encoding.specs.Decoding.{multiple_of, zt_of}
+use Rattle.encoding.specs.declared.Extension.{Extension}
+use Rattle.encoding.specs.declared.Extension.TheVariants.{None, Uxtw, Sxtw}
+use Rattle.encoding.specs.declared.Store.{Store}
+use Rattle.encoding.specs.declared.Store.TheVariants.{Scatter, Strided, Quadword}
+use Rattle.encoding.specs.declared.Encoded.{Encoded}
+use Rattle.encoding.specs.declared.Encoded.TheVariants.{Word, Fields}
 
 -- ---- the class
 
 abbrev pub number_of : Store → ℕ
-number_of (Scatter f) = f .class
-number_of (Strided f) = f .class
-number_of (Quadword f) = f .class
+number_of (Scatter f) = f.class
+number_of (Strided f) = f.class
+number_of (Quadword f) = f.class
 
 -- the feature whose classes have stores of this case
 abbrev pub feature_of : Store → Feature
@@ -32,7 +27,7 @@ feature_of (Quadword f) = SVE2p1
 
 -- the row in the list of the class with this number, if its feature is x; the list's length where there is none
 unfoldable pub row_of : ℕ → Feature → ℕ
-row_of n x = position (λ c. eqb (c .number) n && eqb (flag (c .feature)) (flag x)) classes
+row_of n x = position (λ c. eqb c.number n && eqb (flag c.feature) (flag x)) classes
 
 -- a store's class: it has the store's number, and stores of its case
 abbrev pub row_for : Store → ℕ
@@ -43,7 +38,7 @@ class_for s = class_at (row_for s)
 
 -- the row of the class with this number, whatever its feature
 unfoldable pub row_numbered : ℕ → ℕ
-row_numbered n = position (λ c. eqb (c .number) n) classes
+row_numbered n = position (λ c. eqb c.number n) classes
 
 -- what is named of a class not in the list is refused in any case of store
 abbrev pub class_numbered : ℕ → Class
@@ -56,15 +51,15 @@ pub record Value : Type 0 where
   pub field : Field
   pub number : ℕ
 
-infix 4 _is_
-abbrev pub _is_ : Field → ℕ → Value
+infix 4 ◌is◌
+abbrev pub ◌is◌ : Field → ℕ → Value
 f is n = record { field = f; number = n }
 
 -- the fields that a decoded store names as they are
 abbrev pub numbers_in : Store → List Value
-numbers_in (Scatter f) = (Zm is f .zm) ∷ (Pg is f .pg) ∷ (Rn is f .rn) ∷ (Zt is f .zt) ∷ []
-numbers_in (Strided f) = (Rm is f .rm) ∷ (Pc is f .pc) ∷ (Rn is f .rn) ∷ []
-numbers_in (Quadword f) = (Rm is f .rm) ∷ (Pg is f .pg) ∷ (Zn is f .zn) ∷ (Zt is f .zt) ∷ []
+numbers_in (Scatter f) = (Zm is f.zm) ∷ (Pg is f.pg) ∷ (Rn is f.rn) ∷ (Zt is f.zt) ∷ []
+numbers_in (Strided f) = (Rm is f.rm) ∷ (Pc is f.pc) ∷ (Rn is f.rn) ∷ []
+numbers_in (Quadword f) = (Rm is f.rm) ∷ (Pg is f.pg) ∷ (Zn is f.zn) ∷ (Zt is f.zt) ∷ []
 
 abbrev pub xs_of : Extension → ℕ
 xs_of None = 0
@@ -90,16 +85,16 @@ imm_of nreg n z = lowest (λ v. eqℤ (multiple_of nreg v) z) n
 
 -- all its fields
 abbrev pub values_in : Class → Store → List Value
-values_in c (Scatter f) = (Zm is f .zm) ∷ (xs is xs_of (f .extension)) ∷ (Pg is f .pg) ∷ (Rn is f .rn) ∷ (Zt is f .zt) ∷ []
+values_in c (Scatter f) = (Zm is f.zm) ∷ (xs is xs_of f.extension) ∷ (Pg is f.pg) ∷ (Rn is f.rn) ∷ (Zt is f.zt) ∷ []
 values_in c (Strided f) =
-    (Rm is f .rm)
-    ∷ (imm4 is imm_of (c .nreg) (2 ^ width c imm4) (f .multiple))
-    ∷ (Pc is f .pc)
-    ∷ (Rn is f .rn)
-    ∷ (T is f .first / 16)
-    ∷ (zt_of c is f .first % 16)
+    (Rm is f.rm)
+    ∷ (imm4 is imm_of c.nreg (2 ^ width c imm4) f.multiple)
+    ∷ (Pc is f.pc)
+    ∷ (Rn is f.rn)
+    ∷ (T is f.first / 16)
+    ∷ (zt_of c is f.first % 16)
     ∷ []
-values_in c (Quadword f) = (Rm is f .rm) ∷ (Pg is f .pg) ∷ (Zn is f .zn) ∷ (Zt is f .zt) ∷ []
+values_in c (Quadword f) = (Rm is f.rm) ∷ (Pg is f.pg) ∷ (Zn is f.zn) ∷ (Zt is f.zt) ∷ []
 
 -- ---- the causes of verdict 11, in the row's order
 
@@ -109,19 +104,19 @@ not_listed s = leb (length classes) (row_for s)
 
 -- "a field outside its places' range"
 unfoldable pub out_of_range : Class → Store → Bool
-out_of_range c s = any (λ v. has c (v .field) && not (ltb (v .number) (2 ^ size (v .field)))) (numbers_in s)
+out_of_range c s = any (λ v. has c v.field && not (ltb v.number (2 ^ size v.field))) (numbers_in s)
 
 -- "a field other than 0 that its class lacks"
 unfoldable pub lacked : Class → Store → Bool
-lacked c s = any (λ v. not (has c (v .field)) && not (eqb (v .number) 0)) (numbers_in s)
+lacked c s = any (λ v. not (has c v.field) && not (eqb v.number 0)) (numbers_in s)
 
 -- "a first register or multiple that its class can't name": T and Zt are too small for it; no imm4 has it (a class with no imm4
 -- names the multiple 0 alone)
 abbrev pub unnamed : Class → Store → Bool
 unnamed c (Scatter f) = false
 unnamed c (Strided f) =
-    not (ltb (f .first / 16) (2 ^ width c T) && ltb (f .first % 16) (2 ^ width c (zt_of c)))
-    || not (ltb (imm_of (c .nreg) (2 ^ width c imm4) (f .multiple)) (2 ^ width c imm4))
+    not (ltb (f.first / 16) (2 ^ width c T) && ltb (f.first % 16) (2 ^ width c (zt_of c)))
+    || not (ltb (imm_of c.nreg (2 ^ width c imm4) f.multiple) (2 ^ width c imm4))
 unnamed c (Quadword f) = false
 
 -- "an extension where the class has none or none where it has one"
@@ -135,7 +130,7 @@ misextends true e = is_none e
 misextends false e = not (is_none e)
 
 abbrev pub misextended : Class → Store → Bool
-misextended c (Scatter f) = misextends (has c xs) (f .extension)
+misextended c (Scatter f) = misextends (has c xs) f.extension
 misextended c (Strided f) = false
 misextended c (Quadword f) = false
 
@@ -148,8 +143,8 @@ refused s =
 -- the values' sum, each at its field's place
 abbrev pub placed : List Value → ℕ
 placed [] = 0
-placed (v ∷ vs) = v .number * 2 ^ low (v .field) + placed vs
+placed (v ∷ vs) = v.number * 2 ^ low v.field + placed vs
 
 -- "The encoder answers a word or 11."
 unfoldable pub encode_of : Store → Encoded
-encode_of s = cond (refused s) Fields (Word (class_for s .base + placed (values_in (class_for s) s)))
+encode_of s = cond (refused s) Fields (Word ((class_for s).base + placed (values_in (class_for s) s)))

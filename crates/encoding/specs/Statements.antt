@@ -1,21 +1,15 @@
 -- What is promised of decoding and encoding, beside the contracts of `decode` and `encode`. Each has its proof in
 -- proofs/Statements.antt. Assumes nothing.
-use Prim.Native.Nat.{ℕ, _+_, _-_, _*_, _/_, _%_, _^_, _≤_, _<_}
-use mathlib.Core.Bool.{true, false, cond, _||_}
-use mathlib.Core.List.{List, [], _∷_}
-use mathlib.Core.Logic.{_↔_, _⊎_}
-use mathlib.Core.Path.{_≡_}
-use lib.Bits.{bit_and}
-use lib.Dec.{ltb}
-use lib.ListN.{length, take, drop}
-use Rattle·encoding·specs.specs.Classes.{Zm, Rm, imm4, xs, T, Zt3, Class, class, classes, class_at, bit, belongs, mask_of, has}
-use Rattle·encoding·specs.specs.Decoding.{store_of, decode_of}
-use Rattle·encoding·specs.specs.Answers.{decoded_number, decoded_numbers, encoded_number}
-use Rattle·encoding·specs.specs.Encoding.{class_for, not_listed, out_of_range, lacked, unnamed, misextended, encode_of}
-use Rattle·encoding·specs.specs.declared.Feature.the-variants.{SVE, SME2}
-use Rattle·encoding·specs.specs.declared.Store.{Store}
-use Rattle·encoding·specs.specs.declared.Decoded.the-variants.{Known}
-use Rattle·encoding·specs.specs.declared.Encoded.the-variants.{Word}
+use Rattle.std.specs.Prelude.{ℕ, ◌+◌, ◌-◌, ◌*◌, ◌/◌, ◌%◌, ◌^◌, ◌≤◌, ◌<◌, true, false, cond, ◌||◌, List, [], ◌∷◌, ◌↔◌, ◌⊎◌, ◌≡◌, ltb, length, take, drop}
+use Rattle.std.specs.Int.Bits.{bit_and}
+use Rattle.encoding.specs.Classes.{Zm, Rm, imm4, xs, T, Zt3, Class, class, classes, class_at, bit, belongs, mask_of, has}
+use Rattle.encoding.specs.Decoding.{store_of, decode_of}
+use Rattle.encoding.specs.Answers.{decoded_number, decoded_numbers, encoded_number}
+use Rattle.encoding.specs.Encoding.{class_for, not_listed, out_of_range, lacked, unnamed, misextended, encode_of}
+use Rattle.encoding.specs.declared.Feature.TheVariants.{SVE, SME2}
+use Rattle.encoding.specs.declared.Store.{Store}
+use Rattle.encoding.specs.declared.Decoded.TheVariants.{Known}
+use Rattle.encoding.specs.declared.Encoded.TheVariants.{Word}
 
 -- decoding answers a store of a class exactly when the word belongs to that class
 abbrev pub DecodesItsClass : Type 0
@@ -35,7 +29,7 @@ OneClass =
 -- by w
 abbrev pub at_width : Class → ℕ → ℕ → ℕ → Class
 at_width c n w form =
-    class n (c .base / 2 ^ 25 * 2 ^ 25 + w * 2 ^ 23 + form * 2 ^ 21 + c .base % 2 ^ 21) (c .fields) (c .esize) (8 * 2 ^ w)
+    class n (c.base / 2 ^ 25 * 2 ^ 25 + w * 2 ^ 23 + form * 2 ^ 21 + c.base % 2 ^ 21) c.fields c.esize (8 * 2 ^ w)
     (form % 2 * w) 1 SVE
 
 -- document 02 (i): "They are the pattern of classes 1 to 7 with bits 24..23 as 01 or 10 and bits 22..21 as 00 (.D unscaled), 01 (.D
@@ -57,7 +51,7 @@ ScatterWidths =
 -- is scaled by w
 abbrev pub strided_at_width : Class → ℕ → ℕ → Class
 strided_at_width c n w =
-    class n (c .base / 2 ^ 15 * 2 ^ 15 + w * 2 ^ 13 + c .base % 2 ^ 13) (c .fields) (8 * 2 ^ w) (8 * 2 ^ w) (cond (has c Rm) w 0) (c .nreg)
+    class n (c.base / 2 ^ 15 * 2 ^ 15 + w * 2 ^ 13 + c.base % 2 ^ 13) c.fields (8 * 2 ^ w) (8 * 2 ^ w) (cond (has c Rm) w 0) c.nreg
     SME2
 
 -- document 02 (vii): "Add the strided ST1B, ST1H and ST1W as classes 25 to 28, 29 to 32 and 33 to 36, each with the forms of 8 to 11 in
@@ -76,7 +70,7 @@ StridedWidths =
 abbrev pub MaskIsMembership : Type 0
 MaskIsMembership =
     (k w : ℕ) → k < length classes → w < 2 ^ 32
-    → (bit_and w (mask_of (class_at k)) ≡ class_at k .base) ↔ (belongs (class_at k) w ≡ true)
+    → (bit_and w (mask_of (class_at k)) ≡ (class_at k).base) ↔ (belongs (class_at k) w ≡ true)
 
 -- one of document 01's causes of 11 holds
 abbrev pub Caused : Store → Type 0
@@ -107,13 +101,13 @@ multiple_bits nreg v = cond (ltb v 8) (v * nreg) (2 ^ 64 - (16 - v) * nreg)
 -- or Pc; bits 9..5 as Rn or Zn; bits 4..0 as Zt, or the first register, "T·16 + Zt"; the multiple; zero
 abbrev pub word_numbers : Class → ℕ → List ℕ
 word_numbers c w =
-    c .number
+    c.number
     ∷ cond (has c Zm || has c Rm) (w / 2 ^ 16 % 2 ^ 5) 0
     ∷ cond (has c xs) (1 + bit w 14) 0
     ∷ w / 2 ^ 10 % 2 ^ 3
     ∷ w / 2 ^ 5 % 2 ^ 5
     ∷ cond (has c T) (bit w 4 * 16 + w % cond (has c Zt3) (2 ^ 3) (2 ^ 2)) (w % 2 ^ 5)
-    ∷ cond (has c imm4) (multiple_bits (c .nreg) (w / 2 ^ 16 % 2 ^ 4)) 0
+    ∷ cond (has c imm4) (multiple_bits c.nreg (w / 2 ^ 16 % 2 ^ 4)) 0
     ∷ 0
     ∷ []
 

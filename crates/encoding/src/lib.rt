@@ -2,22 +2,17 @@
 pub mod complement;
 pub mod table;
 
-ghost use mathlib.Core.Path.{_≡_};
-ghost use Prim.Native.Nat.{_<_, _≤_};
-ghost use lib.ListN.{length};
-ghost use Rattle·encoding·specs.specs.Classes.{classes, class_at};
-ghost use Rattle·encoding·specs.specs.declared.Feature.the-variants.{SVE, SME2, SVE2p1};
-ghost use Rattle·encoding·specs.specs.Decoding.{decode_of, store_of, multiple_of, extension_of};
-ghost use Rattle·encoding·specs.specs.Encoding.{class_numbered, row_numbered};
-ghost use Rattle·encoding·specs.specs.Layouts.{number_in};
-use table::CLASSES;
-use table::feature_at;
-use table::index_of;
-use table::layout_of;
-use table::number_at;
-use table::row_numbered;
+ghost use Rattle.std.specs.Prelude.{◌≡◌, ◌<◌, ◌≤◌, length};
+ghost use Rattle.encoding.specs.Classes.{classes, class_at};
+ghost use Rattle.encoding.specs.declared.Feature.TheVariants.{SVE, SME2, SVE2p1};
+ghost use Rattle.encoding.specs.Decoding.{decode_of, store_of, multiple_of, extension_of};
+ghost use Rattle.encoding.specs.Encoding.{class_numbered, row_numbered};
+ghost use Rattle.encoding.specs.Layouts.{number_in};
+
+use table::{CLASSES, feature_at, index_of, layout_of, number_at, row_numbered};
 
 // What a class needs: document 01's first three flags.
+#[derive(Drop)]
 pub enum Feature {
     SVE,
     SME2,
@@ -25,12 +20,14 @@ pub enum Feature {
 }
 
 // How a scatter store's 32-bit offset is extended; None for 64-bit offsets.
+#[derive(Drop)]
 pub enum Extension {
     None,
     Uxtw,
     Sxtw,
 }
 
+#[derive(Drop)]
 pub struct ScatterFields {
     pub class: u8,
     pub zm: u8,
@@ -40,6 +37,7 @@ pub struct ScatterFields {
     pub zt: u8,
 }
 
+#[derive(Drop)]
 pub struct StridedFields {
     pub class: u8,
     pub rm: u8,
@@ -52,6 +50,7 @@ pub struct StridedFields {
     pub first: u8,
 }
 
+#[derive(Drop)]
 pub struct QuadwordFields {
     pub class: u8,
     pub rm: u8,
@@ -61,6 +60,7 @@ pub struct QuadwordFields {
 }
 
 // A decoded store.
+#[derive(Drop)]
 pub enum Store {
     Scatter(ScatterFields),
     Strided(StridedFields),
@@ -68,12 +68,14 @@ pub enum Store {
 }
 
 // What decoding answers: a store, or verdict 4.
+#[derive(Drop)]
 pub enum Decoded {
     Known(Store),
     Undefined,
 }
 
 // What encoding answers: a word, or verdict 11.
+#[derive(Drop)]
 pub enum Encoded {
     Word(u32),
     Fields,
@@ -81,6 +83,7 @@ pub enum Encoded {
 
 // What decoding and encoding need of a class: its number of registers, and how many values the fields can take in which classes of
 // one feature differ, 1 for a field that the class lacks.
+#[derive(Drop)]
 pub struct Layout {
     pub nreg: u32,
     pub xs: u32,
@@ -91,6 +94,7 @@ pub struct Layout {
 
 // What a store's elements need of its class, one number at a time: how many registers, how many values Rm can take, esize/8, msize/8
 // and the scale.
+#[derive(Drop)]
 pub enum Number {
     Nreg,
     RmValues,
@@ -102,8 +106,8 @@ pub enum Number {
 
 // imm4 read as -8..7, times the number of registers.
 pub fn multiple(imm4: u8, nreg: u32) -> i64
-    requires { ⌜ (imm4 < 16) × (nreg ≤ 4) ⌝ }
-    ensures { λ r. ⌜ r ≡ multiple_of nreg imm4 ⌝ }
+    requires { (imm4 < 16) × (nreg ≤ 4) }
+    ensures { result ≡ multiple_of nreg imm4 }
 {
     if imm4 < 8 {
         (imm4 as u32 * nreg) as i64
@@ -114,7 +118,7 @@ pub fn multiple(imm4: u8, nreg: u32) -> i64
 
 // xs 0 is UXTW and 1 is SXTW, in a class that has xs.
 fn extension_of(has: bool, xs: u32) -> Extension
-    ensures { λ r. ⌜ r ≡ extension_of has xs ⌝ }
+    ensures { result ≡ extension_of has xs }
 {
     if has {
         if xs == 0 {
@@ -129,8 +133,8 @@ fn extension_of(has: bool, xs: u32) -> Extension
 
 // The fields of a word of class k + 1, by the class's feature.
 fn scatter(k: usize, word: u32) -> ScatterFields
-    requires { ⌜ (k < length classes) × (class_at k .feature ≡ SVE) ⌝ }
-    ensures { λ r. ⌜ Store.Scatter r ≡ store_of (class_at k) word ⌝ }
+    requires { (k < length classes) × ((class_at k).feature ≡ SVE) }
+    ensures { Store.Scatter result ≡ store_of (class_at k) word }
 {
     let layout = layout_of(k);
     let extension = extension_of(layout.xs == 2, word / 16384 % layout.xs);
@@ -145,8 +149,8 @@ fn scatter(k: usize, word: u32) -> ScatterFields
 }
 
 fn strided(k: usize, word: u32) -> StridedFields
-    requires { ⌜ (k < length classes) × (class_at k .feature ≡ SME2) ⌝ }
-    ensures { λ r. ⌜ Store.Strided r ≡ store_of (class_at k) word ⌝ }
+    requires { (k < length classes) × ((class_at k).feature ≡ SME2) }
+    ensures { Store.Strided result ≡ store_of (class_at k) word }
 {
     let layout = layout_of(k);
     let imm4 = (word / 65536 % layout.imm4) as u8;
@@ -162,8 +166,8 @@ fn strided(k: usize, word: u32) -> StridedFields
 }
 
 fn quadword(k: usize, word: u32) -> QuadwordFields
-    requires { ⌜ (k < length classes) × (class_at k .feature ≡ SVE2p1) ⌝ }
-    ensures { λ r. ⌜ Store.Quadword r ≡ store_of (class_at k) word ⌝ }
+    requires { (k < length classes) × ((class_at k).feature ≡ SVE2p1) }
+    ensures { Store.Quadword result ≡ store_of (class_at k) word }
 {
     QuadwordFields {
         class: (k + 1) as u8,
@@ -176,7 +180,7 @@ fn quadword(k: usize, word: u32) -> QuadwordFields
 
 // What a word is: a store of one of the classes, or undefined. No flag is looked at.
 pub fn decode(word: u32) -> Decoded
-    ensures { λ r. ⌜ r ≡ decode_of word ⌝ }
+    ensures { result ≡ decode_of word }
 {
     let k = index_of(word);
     if CLASSES <= k {
@@ -191,7 +195,7 @@ pub fn decode(word: u32) -> Decoded
 
 // The feature of the class with this number; SVE where the list has no such class.
 pub fn feature_of(class: u8) -> Feature
-    ensures { λ r. ⌜ r ≡ class_numbered class .feature ⌝ }
+    ensures { result ≡ (class_numbered class).feature }
 {
     let k = row_numbered(class);
     if CLASSES <= k {
@@ -202,8 +206,8 @@ pub fn feature_of(class: u8) -> Feature
 
 // A number of the class that has this number in the list.
 pub fn number_for(class: u8, number: Number) -> u32
-    requires { ⌜ row_numbered class < length classes ⌝ }
-    ensures { λ r. ⌜ r ≡ number_in (class_numbered class) number ⌝ }
+    requires { row_numbered class < length classes }
+    ensures { result ≡ number_in (class_numbered class) number }
 {
     number_at((class - 1) as usize, number)
 }

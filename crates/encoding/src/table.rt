@@ -1,14 +1,11 @@
 // The code's tables of the classes, and how a class is found in them.
-ghost use mathlib.Core.Path.{_≡_};
-ghost use Prim.Native.Nat.{_+_, _^_, _<_, _≤_};
-ghost use lib.ListN.{length};
-ghost use Rattle·encoding·specs.specs.Classes.{classes, class_at, flag};
-ghost use Rattle·encoding·specs.specs.Decoding.{index_of};
-ghost use Rattle·encoding·specs.specs.Encoding.{row_of, row_numbered};
-ghost use Rattle·encoding·specs.specs.Layouts.{layout_of, number_in, digit_at, packed_of, feature_from, Bounded};
-use super::Feature;
-use super::Layout;
-use super::Number;
+ghost use Rattle.std.specs.Prelude.{◌≡◌, ◌+◌, ◌^◌, ◌<◌, ◌≤◌, length};
+ghost use Rattle.encoding.specs.Classes.{classes, class_at, flag};
+ghost use Rattle.encoding.specs.Decoding.{index_of};
+ghost use Rattle.encoding.specs.Encoding.{row_of, row_numbered};
+ghost use Rattle.encoding.specs.Layouts.{layout_of, number_in, digit_at, packed_of, feature_from, Bounded};
+
+use super::{Feature, Layout, Number};
 
 pub const CLASSES: usize = 36;
 
@@ -95,7 +92,7 @@ const PACKED: [u64; CLASSES] = [
 
 // The row in the table of the class that the word belongs to; CLASSES where it belongs to none.
 pub(crate) fn index_of(word: u32) -> usize
-    ensures { λ r. ⌜ r ≡ index_of word ⌝ }
+    ensures { result ≡ index_of word }
 {
     let rows = ROWS;
     let mut i: usize = 0;
@@ -110,9 +107,9 @@ pub(crate) fn index_of(word: u32) -> usize
 }
 
 pub fn base_of(k: usize) -> u32
-    requires { ⌜ k < length classes ⌝ }
-    ensures is { λ r. ⌜ r ≡ class_at k .base ⌝ }
-    ensures bounded { λ r. ⌜ r ≤ 0xF0000000 ⌝ }
+    requires { k < length classes }
+    ensures is { result ≡ (class_at k).base }
+    ensures bounded { result ≤ 0xF0000000 }
 {
     let row = ROWS[k];
     row[1]
@@ -120,17 +117,17 @@ pub fn base_of(k: usize) -> u32
 
 // Hexadecimal digit k of a number.
 fn digit(n: u64, k: usize) -> u32
-    requires { ⌜ k < 16 ⌝ }
-    ensures is { λ r. ⌜ r ≡ digit_at n k ⌝ }
-    ensures bounded { λ r. ⌜ r < 16 ⌝ }
+    requires { k < 16 }
+    ensures is { result ≡ digit_at n k }
+    ensures bounded { result < 16 }
 {
     ((n >> (4 * k)) % 16) as u32
 }
 
 // 2 to the power of digit k.
 fn power(n: u64, k: usize) -> u32
-    requires { ⌜ k < 16 ⌝ }
-    ensures { λ r. ⌜ r ≡ 2 ^ digit_at n k ⌝ }
+    requires { k < 16 }
+    ensures { result ≡ 2 ^ digit_at n k }
 {
     1 << digit(n, k)
 }
@@ -138,8 +135,8 @@ fn power(n: u64, k: usize) -> u32
 // The number of class k + 1 in PACKED. A search by the class's number and not an index, so that the compiler unrolls it and reads
 // a table in read-only memory; an indexed constant array is put on the stack each time.
 fn packed(k: usize) -> u64
-    requires { ⌜ k < length classes ⌝ }
-    ensures { λ r. ⌜ r ≡ packed_of (class_at k) ⌝ }
+    requires { k < length classes }
+    ensures { result ≡ packed_of (class_at k) }
 {
     let rows = PACKED;
     let mut i: usize = 0;
@@ -155,7 +152,7 @@ fn packed(k: usize) -> u64
 
 // A feature by its digit.
 fn feature_from(digit: u32) -> Feature
-    ensures { λ r. ⌜ r ≡ feature_from digit ⌝ }
+    ensures { result ≡ feature_from digit }
 {
     match digit {
         0 => Feature::SVE,
@@ -166,16 +163,16 @@ fn feature_from(digit: u32) -> Feature
 
 // The feature that class k + 1 needs.
 pub(crate) fn feature_at(k: usize) -> Feature
-    requires { ⌜ k < length classes ⌝ }
-    ensures { λ r. ⌜ r ≡ class_at k .feature ⌝ }
+    requires { k < length classes }
+    ensures { result ≡ (class_at k).feature }
 {
     feature_from(digit(packed(k), 10))
 }
 
 pub fn layout_of(k: usize) -> Layout
-    requires { ⌜ k < length classes ⌝ }
-    ensures is { λ r. ⌜ r ≡ layout_of (class_at k) ⌝ }
-    ensures bounded { λ r. ⌜ Bounded r ⌝ }
+    requires { k < length classes }
+    ensures is { result ≡ layout_of (class_at k) }
+    ensures bounded { Bounded result }
 {
     let n = packed(k);
     Layout {
@@ -189,8 +186,8 @@ pub fn layout_of(k: usize) -> Layout
 
 // A number of class k + 1. One at a time, so that nothing is read that isn't needed.
 pub(crate) fn number_at(k: usize, number: Number) -> u32
-    requires { ⌜ k < length classes ⌝ }
-    ensures { λ r. ⌜ r ≡ number_in (class_at k) number ⌝ }
+    requires { k < length classes }
+    ensures { result ≡ number_in (class_at k) number }
 {
     let n = packed(k);
     match number {
@@ -205,7 +202,7 @@ pub(crate) fn number_at(k: usize, number: Number) -> u32
 
 // The row of the class with this number; CLASSES where there is none.
 pub(crate) fn row_numbered(class: u8) -> usize
-    ensures { λ r. ⌜ r ≡ row_numbered class ⌝ }
+    ensures { result ≡ row_numbered class }
 {
     if class == 0 {
         return CLASSES;
@@ -215,7 +212,7 @@ pub(crate) fn row_numbered(class: u8) -> usize
 }
 
 fn flag_of(feature: Feature) -> u32
-    ensures { λ r. ⌜ r ≡ flag feature ⌝ }
+    ensures { result ≡ flag feature }
 {
     match feature {
         Feature::SVE => 0,
@@ -226,7 +223,7 @@ fn flag_of(feature: Feature) -> u32
 
 // The row of the class with this number, if it needs this feature; CLASSES where there is none.
 pub fn row_of(class: u8, feature: Feature) -> usize
-    ensures { λ r. ⌜ r ≡ row_of class feature ⌝ }
+    ensures { result ≡ row_of class feature }
 {
     let k = row_numbered(class);
     if CLASSES <= k {

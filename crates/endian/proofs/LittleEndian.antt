@@ -1,32 +1,32 @@
 -- Laws of bytes and little-endian numbers, over the width. Assumes nothing.
-use mathlib.Core.Path.{_≡_, refl, ap, subst}
-use Prim.Native.Nat.{ℕ, zero, suc, _+_, _*_, _/_, _%_, _^_, _≤_, _<_}
-use mathlib.Core.List.{List, [], _∷_, _++_}
+use mathlib.Core.Path.{◌≡◌, refl, ap, subst}
+use Prim.Native.Nat.{ℕ, zero, suc, ◌+◌, ◌*◌, ◌/◌, ◌%◌, ◌^◌, ◌≤◌, ◌<◌}
+use mathlib.Core.List.{List, [], ◌∷◌, ◌++◌}
 use native.Mathlib.Omega.{arith}
 use native.Mathlib.Nat.{pow-suc, pow-zero}
 use native.Mathlib.Numerals.{add-one}
 use lib.ListN.{length, take, drop, get_or}
 use lib.Seq.{drop-cons}
-use Rattle·endian·specs.specs.LittleEndian.{Bytes, le_val, le_bytes}
-use Rattle·endian·proofs.proofs.Parts.{length-part}
+use Rattle.endian.specs.LittleEndian.{Bytes, le_val, le_bytes}
+use Rattle.endian.proofs.Parts.{length_part}
 
 pub bytes-at : (l : List ℕ) → ((i : ℕ) → get_or l i 0 < 256) → Bytes l
 bytes-at [] h = tt
 bytes-at (b ∷ bs) h = (h 0, bytes-at bs (λ i. h (suc i)))
 
-pub bytes-take : (n : ℕ) (l : List ℕ) → Bytes l → Bytes (take n l)
-bytes-take zero l h = tt
-bytes-take (suc n) [] h = tt
-bytes-take (suc n) (b ∷ bs) h = (h .0, bytes-take n bs (h .1))
+pub bytes_take : (n : ℕ) (l : List ℕ) → Bytes l → Bytes (take n l)
+bytes_take zero l h = tt
+bytes_take (suc n) [] h = tt
+bytes_take (suc n) (b ∷ bs) h = (h.0, bytes_take n bs h.1)
 
-pub bytes-drop : (n : ℕ) (l : List ℕ) → Bytes l → Bytes (drop n l)
-bytes-drop zero l h = h
-bytes-drop (suc n) [] h = tt
-bytes-drop (suc n) (b ∷ bs) h = bytes-drop n bs (h .1)
+pub bytes_drop : (n : ℕ) (l : List ℕ) → Bytes l → Bytes (drop n l)
+bytes_drop zero l h = h
+bytes_drop (suc n) [] h = tt
+bytes_drop (suc n) (b ∷ bs) h = bytes_drop n bs h.1
 
 pub bytes-append : (l m : List ℕ) → Bytes l → Bytes m → Bytes (l ++ m)
 bytes-append [] m h k = k
-bytes-append (b ∷ bs) m h k = (h .0, bytes-append bs m (h .1) k)
+bytes-append (b ∷ bs) m h k = (h.0, bytes-append bs m h.1 k)
 
 pub bytes-le_bytes : (k n : ℕ) → Bytes (le_bytes k n)
 unfolding le_bytes
@@ -47,16 +47,16 @@ pub le_bytes-le_val : (l : List ℕ) → Bytes l → le_bytes (length l) (le_val
 unfolding le_bytes le_val
 le_bytes-le_val [] h = refl
 le_bytes-le_val (b ∷ bs) h =
-    let hb : b < 256 = h .0 in
+    let hb : b < 256 = h.0 in
     let p : (b + 256 * le_val bs) % 256 ≡ b = omega arith in
     let q : (b + 256 * le_val bs) / 256 ≡ le_val bs = omega arith in
-    rw (p, q, le_bytes-le_val bs (h .1))
+    rw (p, q, le_bytes-le_val bs h.1)
 
 -- the k bytes from an index on, read as a number and written again
 pub le_bytes-part : (l : List ℕ) (a k : ℕ) → Bytes l → a + k ≤ length l → le_bytes k (le_val (take k (drop a l))) ≡ take k (drop a l)
 le_bytes-part l a k b h =
     let p = take k (drop a l) in
-    subst (λ (j : ℕ). le_bytes j (le_val p) ≡ p) (length-part l a k h) (le_bytes-le_val p (bytes-take k (drop a l) (bytes-drop a l b)))
+    subst (λ (j : ℕ). le_bytes j (le_val p) ≡ p) (length_part l a k h) (le_bytes-le_val p (bytes_take k (drop a l) (bytes_drop a l b)))
 
 -- ---- numbers of two, four and eight bytes, as code reads them
 

@@ -1,7 +1,5 @@
 -- Bytes put over memory or a buffer. Assumes nothing.
-use Prim.Native.Nat.{ℕ, _+_}
-use mathlib.Core.List.{List, _++_}
-use lib.ListN.{length, take, drop}
+use Rattle.std.specs.Prelude.{ℕ, ◌+◌, List, ◌++◌, length, take, drop}
 
 -- memory with p put over it from an index on
 unfoldable pub overwritten : List ℕ → ℕ → List ℕ → List ℕ

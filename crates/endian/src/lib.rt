@@ -1,21 +1,19 @@
 // Little-endian numbers in lent bytes, and bytes copied.
-ghost use mathlib.Core.Path.{_≡_};
-ghost use Prim.Native.Nat.{_+_, _^_, _≤_, _<_};
-ghost use lib.ListN.{length, take, drop};
-ghost use Rattle·endian·specs.specs.LittleEndian.{le_val, le_bytes};
-ghost use Rattle·endian·specs.specs.Overwriting.{overwritten};
+ghost use Rattle.std.specs.Prelude.{◌≡◌, ◌+◌, ◌^◌, ◌≤◌, ◌<◌, length, take, drop};
+ghost use Rattle.endian.specs.LittleEndian.{le_val, le_bytes};
+ghost use Rattle.endian.specs.Overwriting.{overwritten};
 
 // A byte as a word.
 pub fn wide(x: u8) -> u64
-    ensures { λ r. ⌜ (r ≡ x) × (r < 256) ⌝ }
+    ensures { (result ≡ x) × (result < 256) }
 {
     x as u64
 }
 
 // The number in the two bytes from index `at` on.
 pub fn le16(s: &[u8], at: usize) -> u64
-    requires { ⌜ at + 2 ≤ length (now s) ⌝ }
-    ensures { λ r. ⌜ (r ≡ le_val (take 2 (drop at (now (s .entry))))) × (r < 2 ^ 16) ⌝ }
+    requires { at + 2 ≤ length s.now }
+    ensures { (result ≡ le_val (take 2 (drop at s.now))) × (result < 2 ^ 16) }
 {
     let b0 = wide(s[at]);
     let b1 = wide(s[at + 1]);
@@ -24,8 +22,8 @@ pub fn le16(s: &[u8], at: usize) -> u64
 
 // The number in the four bytes from index `at` on.
 pub fn le32(s: &[u8], at: usize) -> u64
-    requires { ⌜ at + 4 ≤ length (now s) ⌝ }
-    ensures { λ r. ⌜ (r ≡ le_val (take 4 (drop at (now (s .entry))))) × (r < 2 ^ 32) ⌝ }
+    requires { at + 4 ≤ length s.now }
+    ensures { (result ≡ le_val (take 4 (drop at s.now))) × (result < 2 ^ 32) }
 {
     let b0 = wide(s[at]);
     let b1 = wide(s[at + 1]);
@@ -36,8 +34,8 @@ pub fn le32(s: &[u8], at: usize) -> u64
 
 // The number in the eight bytes from index `at` on.
 pub fn le64(s: &[u8], at: usize) -> u64
-    requires { ⌜ at + 8 ≤ length (now s) ⌝ }
-    ensures { λ r. ⌜ r ≡ le_val (take 8 (drop at (now (s .entry)))) ⌝ }
+    requires { at + 8 ≤ length s.now }
+    ensures { result ≡ le_val (take 8 (drop at s.now)) }
 {
     let low = le32(s, at);
     let high = le32(s, at + 4);
@@ -46,8 +44,8 @@ pub fn le64(s: &[u8], at: usize) -> u64
 
 // The low two bytes of a number, the lower first, at index `at`.
 pub fn put16(out: &mut [u8], at: usize, x: u64)
-    requires { ⌜ at + 2 ≤ length (now out) ⌝ }
-    ensures { λ _. ⌜ now (out .exit) ≡ overwritten (now (out .entry)) at (le_bytes 2 x) ⌝ }
+    requires { at + 2 ≤ length out.old }
+    ensures { out.new ≡ overwritten out.old at (le_bytes 2 x) }
 {
     out[at] = (x % 256) as u8;
     out[at + 1] = (x / 256 % 256) as u8;
@@ -55,8 +53,8 @@ pub fn put16(out: &mut [u8], at: usize, x: u64)
 
 // The low four bytes of a number.
 pub fn put32(out: &mut [u8], at: usize, x: u64)
-    requires { ⌜ at + 4 ≤ length (now out) ⌝ }
-    ensures { λ _. ⌜ now (out .exit) ≡ overwritten (now (out .entry)) at (le_bytes 4 x) ⌝ }
+    requires { at + 4 ≤ length out.old }
+    ensures { out.new ≡ overwritten out.old at (le_bytes 4 x) }
 {
     put16(out, at, x);
     put16(out, at + 2, x / 0x10000);
@@ -64,8 +62,8 @@ pub fn put32(out: &mut [u8], at: usize, x: u64)
 
 // The eight bytes of a number.
 pub fn put64(out: &mut [u8], at: usize, x: u64)
-    requires { ⌜ at + 8 ≤ length (now out) ⌝ }
-    ensures { λ _. ⌜ now (out .exit) ≡ overwritten (now (out .entry)) at (le_bytes 8 x) ⌝ }
+    requires { at + 8 ≤ length out.old }
+    ensures { out.new ≡ overwritten out.old at (le_bytes 8 x) }
 {
     put32(out, at, x);
     put32(out, at + 4, x / 0x1_0000_0000);
@@ -73,8 +71,8 @@ pub fn put64(out: &mut [u8], at: usize, x: u64)
 
 // Two bytes at index i, as a number: one move of each.
 fn copy2(dst: &mut [u8], src: &[u8], i: usize)
-    requires { ⌜ (i + 2 ≤ length (now dst)) × (i + 2 ≤ length (now src)) ⌝ }
-    ensures { λ _. ⌜ now (dst .exit) ≡ overwritten (now (dst .entry)) i (take 2 (drop i (now (src .entry)))) ⌝ }
+    requires { (i + 2 ≤ length dst.old) × (i + 2 ≤ length src.now) }
+    ensures { dst.new ≡ overwritten dst.old i (take 2 (drop i src.now)) }
 {
     let x = le16(src, i);
     put16(dst, i, x);
@@ -82,8 +80,8 @@ fn copy2(dst: &mut [u8], src: &[u8], i: usize)
 
 // Four bytes at index i.
 fn copy4(dst: &mut [u8], src: &[u8], i: usize)
-    requires { ⌜ (i + 4 ≤ length (now dst)) × (i + 4 ≤ length (now src)) ⌝ }
-    ensures { λ _. ⌜ now (dst .exit) ≡ overwritten (now (dst .entry)) i (take 4 (drop i (now (src .entry)))) ⌝ }
+    requires { (i + 4 ≤ length dst.old) × (i + 4 ≤ length src.now) }
+    ensures { dst.new ≡ overwritten dst.old i (take 4 (drop i src.now)) }
 {
     let x = le32(src, i);
     put32(dst, i, x);
@@ -91,8 +89,8 @@ fn copy4(dst: &mut [u8], src: &[u8], i: usize)
 
 // Eight bytes at index i.
 fn copy8(dst: &mut [u8], src: &[u8], i: usize)
-    requires { ⌜ (i + 8 ≤ length (now dst)) × (i + 8 ≤ length (now src)) ⌝ }
-    ensures { λ _. ⌜ now (dst .exit) ≡ overwritten (now (dst .entry)) i (take 8 (drop i (now (src .entry)))) ⌝ }
+    requires { (i + 8 ≤ length dst.old) × (i + 8 ≤ length src.now) }
+    ensures { dst.new ≡ overwritten dst.old i (take 8 (drop i src.now)) }
 {
     let x = le64(src, i);
     put64(dst, i, x);
@@ -100,8 +98,8 @@ fn copy8(dst: &mut [u8], src: &[u8], i: usize)
 
 // Sixteen bytes at index i, both numbers read before they are put.
 fn copy16(dst: &mut [u8], src: &[u8], i: usize)
-    requires { ⌜ (i + 16 ≤ length (now dst)) × (i + 16 ≤ length (now src)) ⌝ }
-    ensures { λ _. ⌜ now (dst .exit) ≡ overwritten (now (dst .entry)) i (take 16 (drop i (now (src .entry)))) ⌝ }
+    requires { (i + 16 ≤ length dst.old) × (i + 16 ≤ length src.now) }
+    ensures { dst.new ≡ overwritten dst.old i (take 16 (drop i src.now)) }
 {
     let low = le64(src, i);
     let high = le64(src, i + 8);
@@ -111,8 +109,8 @@ fn copy16(dst: &mut [u8], src: &[u8], i: usize)
 
 // Sixteen bytes or more: sixteen at a time, and the last sixteen, which may overlap those.
 fn copy_long(dst: &mut [u8], src: &[u8])
-    requires { ⌜ (16 ≤ length (now dst)) × (length (now src) ≡ length (now dst)) ⌝ }
-    ensures { λ _. ⌜ now (dst .exit) ≡ now (src .entry) ⌝ }
+    requires { (16 ≤ length dst.old) × (length src.now ≡ length dst.old) }
+    ensures { dst.new ≡ src.now }
 {
     let n = dst.len();
     let mut i = 0;
@@ -125,8 +123,8 @@ fn copy_long(dst: &mut [u8], src: &[u8])
 
 // Any number of bytes: below sixteen, the first and the last of a width, which may overlap.
 pub fn copy_any(dst: &mut [u8], src: &[u8])
-    requires { ⌜ length (now src) ≡ length (now dst) ⌝ }
-    ensures { λ _. ⌜ now (dst .exit) ≡ now (src .entry) ⌝ }
+    requires { length src.now ≡ length dst.old }
+    ensures { dst.new ≡ src.now }
 {
     let n = dst.len();
     if 16 <= n {
@@ -157,8 +155,8 @@ pub fn copy_any(dst: &mut [u8], src: &[u8])
 // `copy_any`, which has a second caller in `cutting`: what is called from one place alone would be moved there too. Five comparisons in a
 // row would be made one jump through a table: a comparison by order stands between.
 pub fn copy(dst: &mut [u8], src: &[u8])
-    requires { ⌜ length (now src) ≡ length (now dst) ⌝ }
-    ensures { λ _. ⌜ now (dst .exit) ≡ now (src .entry) ⌝ }
+    requires { length src.now ≡ length dst.old }
+    ensures { dst.new ≡ src.now }
 {
     let n = dst.len();
     if n == 8 {

@@ -1,18 +1,16 @@
 // The keys of the active elements of a scatter or quadword store, or the lowest active element outside the window.
-ghost use mathlib.Core.Path.{_≡_};
-ghost use mathlib.Core.Bool.{true, cond};
-ghost use mathlib.Core.List.{List};
-ghost use Prim.Native.Nat.{ℕ, _+_, _-_, _*_, _/_, _%_, _≤_, _<_};
-ghost use lib.ListN.{length};
-ghost use Rattle·window.specs.Window.{window_ok};
-ghost use Rattle·elements.specs.Accesses.{VectorSound, vector_elements};
-ghost use Rattle·stretches.specs.Stretches.{key_of};
-ghost use Rattle·gathering·specs.specs.Gathering.{GatheredAs};
+ghost use Rattle.std.specs.Prelude.{◌≡◌, ℕ, ◌+◌, ◌-◌, ◌*◌, ◌/◌, ◌%◌, ◌<◌, ◌≤◌, true, List, length, if◌then◌else◌};
+ghost use Rattle.window.specs.Window.{window_ok};
+ghost use Rattle.elements.specs.Accesses.{VectorSound, vector_elements};
+ghost use Rattle.stretches.specs.Stretches.{key_of};
+ghost use Rattle.gathering.specs.Gathering.{GatheredAs};
+
 use elements::VectorAccess;
 use encoding::Extension;
 
 // All active elements lie in the window, and the array's first n entries are their keys; or the lowest that doesn't, with its first
 // address.
+#[derive(Drop)]
 pub enum Gathered {
     Keys { n: usize },
     Outside { element: u64, address: u64 },
@@ -20,15 +18,15 @@ pub enum Gathered {
 
 // An offset in the window, a number of bytes and an element's number as one number.
 fn key(offset: u64, size: usize, e: usize) -> u32
-    requires { ⌜ (1 ≤ size) × (size ≤ 256) × (e < 256) ⌝ }
-    ensures { λ r. ⌜ r ≡ key_of (offset % 65536) size e ⌝ }
+    requires { (1 ≤ size) × (size ≤ 256) × (e < 256) }
+    ensures { result ≡ key_of (offset % 65536) size e }
 {
     (offset % 65536 * 65536) as u32 + ((size - 1) * 256 + e) as u32
 }
 
 // 1 where an element is active.
 fn lane(on: bool) -> usize
-    ensures { λ r. ⌜ r ≡ cond on 1 0 ⌝ }
+    ensures { result ≡ (if on then 1 else 0) }
 {
     if on {
         return 1;
@@ -49,12 +47,11 @@ fn gather(
     room: u64,
     keys: &mut [u32],
 ) -> Gathered
-    requires { ⌜ VectorSound v (length (now offsets)) × (extension ≡ v .extension) × (step ≡ v .step) × (size ≡ v .size) ⌝ }
-    requires { ⌜ (length (now governing) ≡ length (now offsets) / 8) × (v .count ≤ length (now keys)) × (window_ok base room ≡ true) ⌝ }
-    ensures { λ r.
-        ⌜ ((stored : List ℕ) → length stored ≡ length (now (offsets .entry))
-        → GatheredAs base room (v .size) (vector_elements v (now (offsets .entry)) (now (governing .entry)) stored)
-        (now (keys .exit)) r) ⌝ }
+    requires vector_sound { VectorSound v (length offsets.now) × (extension ≡ v.extension) × (step ≡ v.step) × (size ≡ v.size) }
+    requires governing_len { (length governing.now ≡ length offsets.now / 8) × (v.count ≤ length keys.old) × (window_ok base room ≡ true) }
+    ensures { (stored : List ℕ) → length stored ≡ length offsets.now
+        → GatheredAs base room v.size (vector_elements v offsets.now governing.now stored)
+        keys.new result }
 {
     let limit = window::limit_of(room, size as u64);
     let count = v.count;
@@ -88,12 +85,11 @@ pub fn gather_vector(
     room: u64,
     keys: &mut [u32],
 ) -> Gathered
-    requires { ⌜ VectorSound v (length (now offsets)) × (length (now governing) ≡ length (now offsets) / 8)
-        × (v .count ≤ length (now keys)) × (window_ok base room ≡ true) ⌝ }
-    ensures { λ r.
-        ⌜ ((stored : List ℕ) → length stored ≡ length (now (offsets .entry))
-        → GatheredAs base room (v .size) (vector_elements v (now (offsets .entry)) (now (governing .entry)) stored)
-        (now (keys .exit)) r) ⌝ }
+    requires { VectorSound v (length offsets.now) × (length governing.now ≡ length offsets.now / 8)
+        × (v.count ≤ length keys.old) × (window_ok base room ≡ true) }
+    ensures { (stored : List ℕ) → length stored ≡ length offsets.now
+        → GatheredAs base room v.size (vector_elements v offsets.now governing.now stored)
+        keys.new result }
 {
     let extension = v.extension;
     let step = v.step;

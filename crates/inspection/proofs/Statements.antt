@@ -1,28 +1,28 @@
 -- The proof of specs/Statements.antt, of exactly the type that stands there. Assumes nothing.
-use mathlib.Core.Path.{_≡_, refl, sym, ap, ap₂, _∙_}
-use mathlib.Core.Bool.{Bool, true, false, not, cond, _&&_, _||_}
-use mathlib.Core.Logic.{_⊎_, inl, inr}
-use mathlib.Core.List.{[], _∷_}
+use mathlib.Core.Path.{◌≡◌, refl, sym, ap, ap₂, ◌∙◌}
+use mathlib.Core.Bool.{Bool, true, false, not, cond, ◌&&◌, ◌||◌}
+use mathlib.Core.Logic.{◌⊎◌, inl, inr}
+use mathlib.Core.List.{[], ◌∷◌}
 use Prim.Native.Nat.{ℕ}
 use lib.Dec.{ltb}
 use lib.ListN.{replicate}
 use borrow.Author.Tests.{lt-ltb, le-ltb}
-use Rattle·encoding.specs.Decoding.{decode_of}
-use Rattle·encoding.specs.Encoding.{class_for}
-use Rattle·encoding.specs.declared.Decoded.{Decoded}
-use Rattle·encoding.specs.declared.Decoded.the-variants.{Known, Undefined}
-use Rattle·encoding.specs.declared.Store.{Store}
-use Rattle·elements.specs.Machine.{Machine}
-use Rattle·elements.specs.Stores.{size_of, count_of}
-use Rattle·elements.specs.Elements.{active_at, element_at}
-use Rattle·endian.proofs.Order.{absurdly}
-use Rattle·verdicts.specs.Verdicts.{one_of_five, length_ok, registers_ok}
-use Rattle·verdicts.specs.declared.Flags.{Flags}
-use Rattle·inspection·specs.specs.Inspection.{first_byte, is_strided, length_for, inspected_at, inspected_for, inspected_of}
-use Rattle·inspection·specs.specs.Inspection.{inspected_number, bit_of, inspected_answers}
-use Rattle·inspection·specs.specs.Statements.{Answers, Past2, InspectsInNumbers}
-use Rattle·inspection·specs.specs.declared.Inspected.{Inspected}
-use Rattle·inspection·specs.specs.declared.Inspected.the-variants.{Length, Registers, Past, Element}
+use Rattle.encoding.specs.Decoding.{decode_of}
+use Rattle.encoding.specs.Encoding.{class_for}
+use Rattle.encoding.specs.declared.Decoded.{Decoded}
+use Rattle.encoding.specs.declared.Decoded.TheVariants.{Known, Undefined}
+use Rattle.encoding.specs.declared.Store.{Store}
+use Rattle.elements.specs.Machine.{Machine}
+use Rattle.elements.specs.Stores.{size_of, count_of}
+use Rattle.elements.specs.Elements.{active_at, element_at}
+use Rattle.endian.proofs.Order.{absurdly}
+use Rattle.verdicts.specs.Verdicts.{one_of_five, length_ok, registers_ok}
+use Rattle.verdicts.specs.declared.Flags.{Flags}
+use Rattle.inspection.specs.Inspection.{first_byte, is_strided, length_for, inspected_at, inspected_for, inspected_of}
+use Rattle.inspection.specs.Inspection.{inspected_number, bit_of, inspected_answers}
+use Rattle.inspection.specs.Statements.{Answers, Past2, InspectsInNumbers}
+use Rattle.inspection.specs.declared.Inspected.{Inspected}
+use Rattle.inspection.specs.declared.Inspected.TheVariants.{Length, Registers, Past, Element}
 
 and-false : (b : Bool) → b && false ≡ false
 and-false true = refl
@@ -35,7 +35,7 @@ either true false o e = absurdly cc
 
 module _ (f : Flags) (m : Machine) (word e : ℕ) where
   -- what is inspected, by the two tests
-  tested : (a b : Bool) → length_for f (m .vb) (decode_of word) ≡ a → registers_ok m ≡ b
+  tested : (a b : Bool) → length_for f m.vb (decode_of word) ≡ a → registers_ok m ≡ b
       → inspected_of f m word e ≡ cond (not a) Length (cond (not b) Registers (inspected_for m (decode_of word) e))
   unfolding inspected_of
   tested a b p q =
@@ -44,28 +44,28 @@ module _ (f : Flags) (m : Machine) (word e : ℕ) where
   answered : (i : Inspected) → inspected_of f m word e ≡ i → Answers f m word e (inspected_number i) (inspected_answers i)
   answered i q = (ap inspected_number q, ap inspected_answers q)
 
-  refused-length : length_for f (m .vb) (decode_of word) ≡ false → Answers f m word e 1 (replicate 5 0)
+  refused-length : length_for f m.vb (decode_of word) ≡ false → Answers f m word e 1 (replicate 5 0)
   refused-length a = answered Length (tested false (registers_ok m) a refl)
 
   -- 1's two causes
-  by-length : length_ok (f .early) (f .streaming) (m .vb) ≡ false → length_for f (m .vb) (decode_of word) ≡ false
+  by_length : length_ok f.early f.streaming m.vb ≡ false → length_for f m.vb (decode_of word) ≡ false
   unfolding length_for
-  by-length a = ap (λ (b : Bool). b && (not (is_strided (decode_of word)) || one_of_five (m .vb))) a
+  by_length a = ap (λ (b : Bool). b && (not (is_strided (decode_of word)) || one_of_five m.vb)) a
 
-  by-stride : is_strided (decode_of word) ≡ true → one_of_five (m .vb) ≡ false → length_for f (m .vb) (decode_of word) ≡ false
+  by-stride : is_strided (decode_of word) ≡ true → one_of_five m.vb ≡ false → length_for f m.vb (decode_of word) ≡ false
   unfolding length_for
   by-stride s a =
-      ap₂ (λ (b c : Bool). length_ok (f .early) (f .streaming) (m .vb) && (not b || c)) s a
-      ∙ and-false (length_ok (f .early) (f .streaming) (m .vb))
+      ap₂ (λ (b c : Bool). length_ok f.early f.streaming m.vb && (not b || c)) s a
+      ∙ and-false (length_ok f.early f.streaming m.vb)
 
-  causes : length_for f (m .vb) (decode_of word) ≡ false
-      → (length_ok (f .early) (f .streaming) (m .vb) ≡ false) ⊎ ((is_strided (decode_of word) ≡ true) × (one_of_five (m .vb) ≡ false))
+  causes : length_for f m.vb (decode_of word) ≡ false
+      → (length_ok f.early f.streaming m.vb ≡ false) ⊎ ((is_strided (decode_of word) ≡ true) × (one_of_five m.vb ≡ false))
   unfolding length_for
-  causes q = either (length_ok (f .early) (f .streaming) (m .vb)) (is_strided (decode_of word)) (one_of_five (m .vb)) q
+  causes q = either (length_ok f.early f.streaming m.vb) (is_strided (decode_of word)) (one_of_five m.vb) q
 
   -- what isn't refused with 1 has another number
-  not-1 : (a b : Bool) → length_for f (m .vb) (decode_of word) ≡ a → registers_ok m ≡ b → inspected_number (inspected_of f m word e) ≡ 1
-      → length_for f (m .vb) (decode_of word) ≡ false
+  not-1 : (a b : Bool) → length_for f m.vb (decode_of word) ≡ a → registers_ok m ≡ b → inspected_number (inspected_of f m word e) ≡ 1
+      → length_for f m.vb (decode_of word) ≡ false
   unfolding inspected_at
   not-1 false b p q n = p
   not-1 true false p q n = absurdly (cc (sym (ap inspected_number (tested true false p q)) ∙ n))
@@ -77,7 +77,7 @@ module _ (f : Flags) (m : Machine) (word e : ℕ) where
         where
           by : (t : Bool)
               → inspected_number
-              (cond t (Element (active_at m s e) (element_at m s e .address) (first_byte m s e) (size_of (class_for s)) (count_of m s))
+              (cond t (Element (active_at m s e) (element_at m s e).address (first_byte m s e) (size_of (class_for s)) (count_of m s))
               (Past (count_of m s)))
               ≡ 1
               → ⊥
@@ -87,37 +87,37 @@ module _ (f : Flags) (m : Machine) (word e : ℕ) where
   module _ (s : Store) (p : Past2 f m word) (d : decode_of word ≡ Known s) where
     found : (t : Bool) → ltb e (count_of m s) ≡ t
         → inspected_of f m word e
-        ≡ cond t (Element (active_at m s e) (element_at m s e .address) (first_byte m s e) (size_of (class_for s)) (count_of m s))
+        ≡ cond t (Element (active_at m s e) (element_at m s e).address (first_byte m s e) (size_of (class_for s)) (count_of m s))
         (Past (count_of m s))
     unfolding inspected_at
     found t q =
-        tested true true (p .0) (p .1)
+        tested true true p.0 p.1
         ∙ ap (λ (y : Decoded). inspected_for m y e) d
         ∙ ap
         (λ (t : Bool).
-        cond t (Element (active_at m s e) (element_at m s e .address) (first_byte m s e) (size_of (class_for s)) (count_of m s))
+        cond t (Element (active_at m s e) (element_at m s e).address (first_byte m s e) (size_of (class_for s)) (count_of m s))
         (Past (count_of m s)))
         q
 
-bit-is : (b : Bool) → bit_of b ≡ cond b 1 0
-bit-is true = refl
-bit-is false = refl
+bit_is : (b : Bool) → bit_of b ≡ cond b 1 0
+bit_is true = refl
+bit_is false = refl
 
 pub inspects-in-numbers : InspectsInNumbers
 inspects-in-numbers =
     record {
-      length = λ f m word e a. refused-length f m word e (by-length f m word e a);
+      length = λ f m word e a. refused-length f m word e (by_length f m word e a);
       strided_length = λ f m word e g a d. refused-length f m word e (by-stride f m word e (ap is_strided d) a);
       length_only = λ f m word e n. causes f m word e (not-1 f m word e _ _ refl refl n);
       registers = λ f m word e a b. answered f m word e _ (tested f m word e true false a b);
       undefined = λ f m word e p d.
-          answered f m word e _ (tested f m word e true true (p .0) (p .1) ∙ ap (λ (y : Decoded). inspected_for m y e) d);
+          answered f m word e _ (tested f m word e true true p.0 p.1 ∙ ap (λ (y : Decoded). inspected_for m y e) d);
       element = λ f m word e s p d h.
           let r = answered f m word e _ (found f m word e s p d true (lt-ltb e (count_of m s) h)) in (
-            r .0,
-            r .1
-                ∙ ap (λ (n : ℕ). n ∷ element_at m s e .address ∷ first_byte m s e ∷ size_of (class_for s) ∷ count_of m s ∷ [])
-                (bit-is (active_at m s e)),
+            r.0,
+            r.1
+                ∙ ap (λ (n : ℕ). n ∷ (element_at m s e).address ∷ first_byte m s e ∷ size_of (class_for s) ∷ count_of m s ∷ [])
+                (bit_is (active_at m s e)),
           );
       past = λ f m word e s p d h. answered f m word e _ (found f m word e s p d false (le-ltb e (count_of m s) h));
     }

@@ -1,27 +1,23 @@
 -- What element e of a word's store is on a machine. Of the flags only edition and streaming are looked at, for VB, and no window is
 -- judged. Assumes nothing.
-use Prim.Native.Nat.{ℕ, _+_, _*_}
-use mathlib.Core.Bool.{Bool, true, false, not, cond, _&&_, _||_}
-use mathlib.Core.List.{List, [], _∷_}
-use lib.Dec.{ltb}
-use lib.ListN.{replicate}
-use Rattle·encoding.specs.Decoding.{decode_of}
-use Rattle·encoding.specs.Encoding.{class_for}
-use Rattle·encoding.specs.declared.Decoded.{Decoded}
-use Rattle·encoding.specs.declared.Decoded.the-variants as D
-use Rattle·encoding.specs.declared.Store.{Store}
-use Rattle·encoding.specs.declared.Store.the-variants.{Scatter, Strided, Quadword}
-use Rattle·elements.specs.Machine.{Machine}
-use Rattle·elements.specs.Stores.{size_of, count_of, register_in, index_in}
-use Rattle·elements.specs.Elements.{active_at, element_at}
-use Rattle·verdicts.specs.Verdicts.{one_of_five, length_ok, registers_ok}
-use Rattle·verdicts.specs.declared.Flags.{Flags}
-use Rattle·inspection·specs.specs.declared.Inspected.{Inspected}
-use Rattle·inspection·specs.specs.declared.Inspected.the-variants.{Length, Registers, Undefined, Past, Element}
+use Rattle.std.specs.Prelude.{ℕ, ◌+◌, ◌*◌, Bool, true, false, not, cond, ◌&&◌, ◌||◌, List, [], ◌∷◌, ltb, replicate}
+use Rattle.encoding.specs.Decoding.{decode_of}
+use Rattle.encoding.specs.Encoding.{class_for}
+use Rattle.encoding.specs.declared.Decoded.{Decoded}
+use Rattle.encoding.specs.declared.Decoded.TheVariants as D
+use Rattle.encoding.specs.declared.Store.{Store}
+use Rattle.encoding.specs.declared.Store.TheVariants.{Scatter, Strided, Quadword}
+use Rattle.elements.specs.Machine.{Machine}
+use Rattle.elements.specs.Stores.{size_of, count_of, register_in, index_in}
+use Rattle.elements.specs.Elements.{active_at, element_at}
+use Rattle.verdicts.specs.Verdicts.{one_of_five, length_ok, registers_ok}
+use Rattle.verdicts.specs.declared.Flags.{Flags}
+use Rattle.inspection.specs.declared.Inspected.{Inspected}
+use Rattle.inspection.specs.declared.Inspected.TheVariants.{Length, Registers, Undefined, Past, Element}
 
 -- the index of its first byte in the Z buffer: "register r from byte r·VB", and the element's index in its register
 abbrev pub first_byte : Machine → Store → ℕ → ℕ
-first_byte m s e = register_in m (class_for s) s e * m .vb + index_in m (class_for s) s e
+first_byte m s e = register_in m (class_for s) s e * m.vb + index_in m (class_for s) s e
 
 -- element e of n by what it is, or past the last
 abbrev pub counted : ℕ → ℕ → Bool → ℕ → ℕ → ℕ → Inspected
@@ -31,7 +27,7 @@ counted e n active address index size = cond (ltb e n) (Element active address i
 -- elements the store has
 unfoldable pub inspected_at : Machine → Store → ℕ → Inspected
 inspected_at m s e =
-    counted e (count_of m s) (active_at m s e) (element_at m s e .address) (first_byte m s e) (size_of (class_for s))
+    counted e (count_of m s) (active_at m s e) (element_at m s e).address (first_byte m s e) (size_of (class_for s))
 
 -- from 4 on: "no class"
 abbrev pub inspected_for : Machine → Decoded → ℕ → Inspected
@@ -47,12 +43,12 @@ is_strided (D.Known (Quadword g)) = false
 -- 1 length, as for a store; a strided word gets it too at a VB that is none of the five, where log2(4·VB) of document 02 (iii) is no whole
 -- number and no strided store is done
 unfoldable pub length_for : Flags → ℕ → Decoded → Bool
-length_for f vb d = length_ok (f .early) (f .streaming) vb && (not (is_strided d) || one_of_five vb)
+length_for f vb d = length_ok f.early f.streaming vb && (not (is_strided d) || one_of_five vb)
 
 -- 1, 2, or 4 where the word has no class, in that order; else what element e is
 unfoldable pub inspected_of : Flags → Machine → ℕ → ℕ → Inspected
 inspected_of f m word e =
-    cond (not (length_for f (m .vb) (decode_of word))) Length
+    cond (not (length_for f m.vb (decode_of word))) Length
     (cond (not (registers_ok m)) Registers
     (inspected_for m (decode_of word) e))
 

@@ -1,24 +1,21 @@
 // One element of a word's store on a lent machine: of the flags only edition and streaming are looked at, for VB, and no window is judged.
-ghost use mathlib.Core.Path.{_≡_};
-ghost use mathlib.Core.Bool.{false};
-ghost use Prim.Native.Nat.{_*_, _^_};
-ghost use lib.ListN.{length};
-ghost use Rattle·encoding.specs.Encoding.{feature_of, refused};
-ghost use Rattle·encoding.specs.declared.Feature.the-variants.{SME2};
-ghost use Rattle·elements.specs.Machine.{machine};
-ghost use Rattle·elements.specs.Counter.{highest};
-ghost use Rattle·elements.specs.Accesses.{VectorSound, StridedSound};
-ghost use Rattle·checks.specs.Checking.{Sound};
-ghost use Rattle·inspection·specs.specs.Inspection.{is_strided, length_for, inspected_at, inspected_of};
-ghost use Rattle·inspection·specs.specs.Steps.{vector_inspected, strided_inspected};
-use elements::StridedAccess;
-use elements::VectorAccess;
-use encoding::Decoded;
-use encoding::Store;
+ghost use Rattle.std.specs.Prelude.{◌≡◌, false, ◌*◌, ◌^◌, length};
+ghost use Rattle.encoding.specs.Encoding.{feature_of, refused};
+ghost use Rattle.encoding.specs.declared.Feature.TheVariants.{SME2};
+ghost use Rattle.elements.specs.Machine.{machine};
+ghost use Rattle.elements.specs.Counter.{highest};
+ghost use Rattle.elements.specs.Accesses.{VectorSound, StridedSound};
+ghost use Rattle.checks.specs.Checking.{Sound};
+ghost use Rattle.inspection.specs.Inspection.{is_strided, length_for, inspected_at, inspected_of};
+ghost use Rattle.inspection.specs.Steps.{vector_inspected, strided_inspected};
+
+use elements::{StridedAccess, VectorAccess};
+use encoding::{Decoded, Store};
 use verdicts::Flags;
 
 // What an element is: refused with 1, 2, or 4 for a word of no class; past the last of `count` elements; or one of them with its
 // address, the index of its first byte in the Z buffer and its bytes' number.
+#[derive(Drop)]
 pub enum Inspected {
     Length,
     Registers,
@@ -37,9 +34,9 @@ pub enum Inspected {
 
 // Element e of a scatter or quadword store. It is compared before it is narrowed.
 fn inspect_vector(v: VectorAccess, vb: usize, z: &[u8], p: &[u8], e: u64) -> Inspected
-    requires { ⌜ VectorSound v vb ⌝ }
-    requires { ⌜ (length (now z) ≡ 32 * vb) × (length (now p) ≡ 2 * vb) ⌝ }
-    ensures { λ r. ⌜ r ≡ vector_inspected v vb (now (z .entry)) (now (p .entry)) e ⌝ }
+    requires vector_sound { VectorSound v vb }
+    requires z_len { (length z.now ≡ 32 * vb) × (length p.now ≡ 2 * vb) }
+    ensures { result ≡ vector_inspected v vb z.now p.now e }
 {
     let count = v.count as u64;
     if count <= e {
@@ -61,8 +58,8 @@ fn inspect_vector(v: VectorAccess, vb: usize, z: &[u8], p: &[u8], e: u64) -> Ins
 
 // Element e of a strided store. It is compared before it is narrowed.
 fn inspect_strided(s: StridedAccess, vb: usize, e: u64) -> Inspected
-    requires { ⌜ StridedSound s vb ⌝ }
-    ensures { λ r. ⌜ r ≡ strided_inspected s vb e ⌝ }
+    requires { StridedSound s vb }
+    ensures { result ≡ strided_inspected s vb e }
 {
     let count = (s.nreg * (vb / s.size)) as u64;
     if count <= e {
@@ -83,7 +80,7 @@ fn inspect_strided(s: StridedAccess, vb: usize, e: u64) -> Inspected
 
 // Whether a word is a strided store.
 fn is_strided(decoded: Decoded) -> bool
-    ensures { λ r. ⌜ r ≡ is_strided decoded ⌝ }
+    ensures { result ≡ is_strided decoded }
 {
     match decoded {
         Decoded::Known(store) => match store {
@@ -105,9 +102,9 @@ fn inspect_store(
     p: &[u8],
     e: u64,
 ) -> Inspected
-    requires { ⌜ (refused store ≡ false) × (feature_of store ≡ SME2 → 4 * vb ≡ 2 ^ highest vb) ⌝ }
-    requires { ⌜ Sound vb (now z) (now p) ⌝ }
-    ensures { λ r. ⌜ r ≡ inspected_at (machine vb (now (x .entry)) sp (now (z .entry)) (now (p .entry))) store e ⌝ }
+    requires store_value { (refused store ≡ false) × (feature_of store ≡ SME2 → 4 * vb ≡ 2 ^ highest vb) }
+    requires sound { Sound vb z.now p.now }
+    ensures { result ≡ inspected_at (machine vb x.now sp z.now p.now) store e }
 {
     match store {
         Store::Scatter(f) => inspect_vector(elements::scatter_access(f, vb, x, sp), vb, z, p, e),
@@ -122,7 +119,7 @@ fn inspect_store(
 
 // Whether VB is a length for the element of a word. A strided word's is one of the five under both editions.
 fn length_for(flags: Flags, vb: usize, decoded: Decoded) -> bool
-    ensures { λ r. ⌜ r ≡ length_for flags vb decoded ⌝ }
+    ensures { result ≡ length_for flags vb decoded }
 {
     let ok = conditions::length_ok(vb, flags.early, flags.streaming);
     ok & (!is_strided(decoded) | conditions::one_of_five(vb))
@@ -139,7 +136,7 @@ pub fn inspect(
     word: u32,
     e: u64,
 ) -> Inspected
-    ensures { λ r. ⌜ r ≡ inspected_of flags (machine vb (now (x .entry)) sp (now (z .entry)) (now (p .entry))) word e ⌝ }
+    ensures { result ≡ inspected_of flags (machine vb x.now sp z.now p.now) word e }
 {
     let decoded = encoding::decode(word);
     if !length_for(flags, vb, decoded) {

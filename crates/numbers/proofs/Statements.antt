@@ -1,11 +1,11 @@
 -- Flags are bits in document 01's order. Assumes nothing.
 use mathlib.Core.Path.{sym, ap}
-use mathlib.Core.List.{[], _∷_, map}
-use Prim.Native.Nat.{ℕ, _%_}
+use mathlib.Core.List.{[], ◌∷◌, map}
+use Prim.Native.Nat.{ℕ, ◌%◌}
 use native.Mathlib.Nat.{div-one}
 use lib.Dec.{eqb}
-use Rattle·encoding.specs.Classes.{bit}
-use Rattle·numbers·specs.specs.Flags.{FlagsAreBits}
+use Rattle.encoding.specs.Classes.{bit}
+use Rattle.numbers.specs.Flags.{FlagsAreBits}
 
 pub flags-are-bits : FlagsAreBits
 flags-are-bits n =

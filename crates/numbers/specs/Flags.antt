@@ -1,11 +1,7 @@
 -- Flags as bits of a number. Assumes nothing.
-use Prim.Native.Nat.{ℕ, _/_, _%_}
-use mathlib.Core.Bool.{Bool}
-use mathlib.Core.List.{List, [], _∷_, map}
-use mathlib.Core.Path.{_≡_}
-use lib.Dec.{eqb}
-use Rattle·encoding.specs.Classes.{bit}
-use Rattle·verdicts.specs.declared.Flags.{Flags}
+use Rattle.std.specs.Prelude.{ℕ, ◌/◌, ◌%◌, Bool, List, [], ◌∷◌, map, ◌≡◌, eqb}
+use Rattle.encoding.specs.Classes.{bit}
+use Rattle.verdicts.specs.declared.Flags.{Flags}
 
 -- bits 0 to 6 are document 01's flags in its order (SVE, SME2, SVE2p1, streaming, FA64, SP check, SP check with nothing active);
 -- bit 7 is document 02 (viii)'s, strict, and bit 8 the edition of document 02 (vi): "8 early edition" (xiii). Higher bits are ignored.
@@ -17,8 +13,8 @@ flags_of n =
       sve2p1 = eqb (n / 4 % 2) 1;
       streaming = eqb (n / 8 % 2) 1;
       fa64 = eqb (n / 16 % 2) 1;
-      «sp_check» = eqb (n / 32 % 2) 1;
-      «sp_check_none_active» = eqb (n / 64 % 2) 1;
+      sp_check = eqb (n / 32 % 2) 1;
+      sp_check_none_active = eqb (n / 64 % 2) 1;
       strict = eqb (n / 128 % 2) 1;
       early = eqb (n / 256 % 2) 1;
     }
@@ -26,7 +22,7 @@ flags_of n =
 -- a machine's flags in document 01's order, and document 02's behind them
 abbrev pub flags_in_order : Flags → List Bool
 flags_in_order f =
-    f .sve ∷ f .sme2 ∷ f .sve2p1 ∷ f .streaming ∷ f .fa64 ∷ f .«sp_check» ∷ f .«sp_check_none_active» ∷ f .strict ∷ f .early ∷ []
+    f.sve ∷ f.sme2 ∷ f.sve2p1 ∷ f.streaming ∷ f.fa64 ∷ f.sp_check ∷ f.sp_check_none_active ∷ f.strict ∷ f.early ∷ []
 
 -- they are the bits from 0 to 8
 abbrev pub FlagsAreBits : Type 0

@@ -1,14 +1,13 @@
 // Flags as bits, and a verdict as a number and six answers.
-ghost use mathlib.Core.Path.{_≡_};
-ghost use Rattle·verdicts.specs.Verdicts.{refusal_number, number, detail};
-ghost use Rattle·outcomes.specs.Storing.{numbers};
-ghost use Rattle·numbers·specs.specs.Flags.{flags_of};
-use verdicts::Flags;
-use verdicts::Refusal;
-use verdicts::Verdict;
+ghost use Rattle.std.specs.Prelude.{◌≡◌};
+ghost use Rattle.verdicts.specs.Verdicts.{refusal_number, number, detail};
+ghost use Rattle.outcomes.specs.Storing.{numbers};
+ghost use Rattle.numbers.specs.Flags.{flags_of};
+
+use verdicts::{Flags, Refusal, Verdict};
 
 pub fn flags_of(n: u64) -> Flags
-    ensures { λ r. ⌜ r ≡ flags_of n ⌝ }
+    ensures { result ≡ flags_of n }
 {
     Flags {
         sve: n % 2 == 1,
@@ -24,7 +23,7 @@ pub fn flags_of(n: u64) -> Flags
 }
 
 fn refusal_number(r: Refusal) -> u64
-    ensures { λ n. ⌜ n ≡ refusal_number r ⌝ }
+    ensures { result ≡ refusal_number r }
 {
     match r {
         Refusal::Length => 1,
@@ -47,7 +46,7 @@ fn refusal_number(r: Refusal) -> u64
 
 // Element and address of a refusal's detail.
 fn detail_of(r: Refusal) -> [u64; 2]
-    ensures { λ a. ⌜ a ≡ detail r ⌝ }
+    ensures { result ≡ detail r }
 {
     match r {
         Refusal::Length => [0, 0],
@@ -65,8 +64,8 @@ fn detail_of(r: Refusal) -> [u64; 2]
 // A verdict's number. `answer` gets element and address of the detail, active elements, bytes, the patch's length, steps. One match for
 // both, so that the verdict stays in registers.
 pub fn answered(v: Verdict, answer: &mut [u64; 6]) -> u64
-    ensures { λ r. ⌜ r ≡ number v ⌝ }
-    ensures { λ _. ⌜ now (answer .exit) ≡ numbers v ⌝ }
+    ensures value { result ≡ number v }
+    ensures answer_after { answer.new ≡ numbers v }
 {
     match v {
         Verdict::Done {

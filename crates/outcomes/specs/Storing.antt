@@ -1,16 +1,13 @@
 -- The merged call of document 02 (ix): "one call checks 1 to 7, 12 and 8 in that order, then writes memory and patch buffer together. On
 -- any refusal both stay unchanged." Assumes nothing.
-use Prim.Native.Nat.{ℕ}
-use mathlib.Core.List.{List, [], _∷_, _++_}
-use mathlib.Core.Path.{_≡_}
-use lib.ListN.{length, drop}
-use Rattle·encoding.specs.Decoding.{decode_of}
-use Rattle·writes.specs.Elements.{Element, written}
-use Rattle·elements.specs.Machine.{Machine}
-use Rattle·verdicts.specs.Verdicts.{elements_for, patch_of, verdict_of, detail}
-use Rattle·verdicts.specs.declared.Flags.{Flags}
-use Rattle·verdicts.specs.declared.Verdict.{Verdict}
-use Rattle·verdicts.specs.declared.Verdict.the-variants.{Done, Refused}
+use Rattle.std.specs.Prelude.{ℕ, List, [], ◌∷◌, ◌++◌, ◌≡◌, length, drop}
+use Rattle.encoding.specs.Decoding.{decode_of}
+use Rattle.writes.specs.Elements.{Element, written}
+use Rattle.elements.specs.Machine.{Machine}
+use Rattle.verdicts.specs.Verdicts.{elements_for, patch_of, verdict_of, detail}
+use Rattle.verdicts.specs.declared.Flags.{Flags}
+use Rattle.verdicts.specs.declared.Verdict.{Verdict}
+use Rattle.verdicts.specs.declared.Verdict.TheVariants.{Done, Refused}
 
 -- the elements written in turn where the verdict is done, else as it came: "Arm lets a faulting store have written part; ours has
 -- written nothing."
@@ -26,10 +23,10 @@ buffer_after (Refused r) patch buffer = buffer
 
 -- a call on flags f and machine m, with the window of `mem` at W, a word and a patch buffer: the answer, and memory and buffer at exit
 pub record Stored (f : Flags) (m : Machine) (W : ℕ) (mem : List ℕ) (word : ℕ) (buffer : List ℕ) (v : Verdict)
-    (mem′ buffer′ : List ℕ) : Type 0 where
+    (mem' buffer' : List ℕ) : Type 0 where
   pub answer : v ≡ verdict_of f m W (length mem) word (length buffer)
-  pub memory : mem′ ≡ memory_after v W mem (elements_for m (decode_of word))
-  pub patch : buffer′ ≡ buffer_after v (patch_of (elements_for m (decode_of word))) buffer
+  pub memory : mem' ≡ memory_after v W mem (elements_for m (decode_of word))
+  pub patch : buffer' ≡ buffer_after v (patch_of (elements_for m (decode_of word))) buffer
 
 -- ---- document 01's numbers
 

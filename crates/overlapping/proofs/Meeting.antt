@@ -1,20 +1,20 @@
 -- Stretches that share a byte, joined and in order, are just those of keys that do: one pass over the stretches tells. Assumes nothing.
-use mathlib.Core.Path.{_≡_, refl, sym, ap, ap₂, _∙_, subst}
-use Prim.Native.Nat.{ℕ, suc, _+_, _-_, _*_, _≤_, _<_}
-use mathlib.Core.Bool.{Bool, true, false, not, cond, _&&_, _||_}
-use mathlib.Core.List.{List, [], _∷_}
+use mathlib.Core.Path.{◌≡◌, refl, sym, ap, ap₂, ◌∙◌, subst}
+use Prim.Native.Nat.{ℕ, suc, ◌+◌, ◌-◌, ◌*◌, ◌≤◌, ◌<◌}
+use mathlib.Core.Bool.{Bool, true, false, not, cond, ◌&&◌, ◌||◌}
+use mathlib.Core.List.{List, [], ◌∷◌}
 use mathlib.Core.Option.{none, some}
 use native.Mathlib.Omega.{arith}
 use lib.Dec.{ltb}
 use lib.ListN.{length}
 use borrow.Author.Tests.{lt-ltb, le-ltb}
-use Rattle·endian.proofs.Order.{two}
-use Rattle·ordering.specs.Keys.{filed, sorted, Each}
-use Rattle·ordering.proofs.Sorting.{filed-past, filed-here}
-use Rattle·stretches.specs.Stretches.{start_of, bytes_of, end_of, joined_from, joined, Rising}
-use Rattle·stretches.proofs.Joining.{grown-start, grown-bytes, joined-on, joined-new}
-use Rattle·stretches.proofs.Joined.{same-or, Open, open-first, open-on, open-new, small}
-use Rattle·overlapping·specs.specs.Overlaps.{parted, meets, meets_any, meeting_from, first_meeting, is_found}
+use Rattle.endian.proofs.Order.{two}
+use Rattle.ordering.specs.Keys.{filed, sorted, Each}
+use Rattle.ordering.proofs.Sorting.{filed-past, filed-here}
+use Rattle.stretches.specs.Stretches.{start_of, bytes_of, end_of, joined_from, joined, Rising}
+use Rattle.stretches.proofs.Joining.{grown-start, grown-bytes, joined-on, joined-new}
+use Rattle.stretches.proofs.Joined.{same_or, Open, open-first, open-on, open-new, small}
+use Rattle.overlapping.specs.Overlaps.{parted, meets, meets_any, meeting_from, first_meeting, is_found}
 
 -- two of the stretches meet
 unfoldable pub clash : List ℕ → Bool
@@ -59,19 +59,19 @@ meets-join a b c d e h k l =
 
 -- ---- sums of tests
 
-or-assoc : (a b c : Bool) → (a || b) || c ≡ a || (b || c)
-or-assoc true b c = refl
-or-assoc false b c = refl
+or_assoc : (a b c : Bool) → (a || b) || c ≡ a || (b || c)
+or_assoc true b c = refl
+or_assoc false b c = refl
 
-or-swap : (a b c : Bool) → a || (b || c) ≡ b || (a || c)
-or-swap true true c = refl
-or-swap true false c = refl
-or-swap false true c = refl
-or-swap false false c = refl
+or_swap : (a b c : Bool) → a || (b || c) ≡ b || (a || c)
+or_swap true true c = refl
+or_swap true false c = refl
+or_swap false true c = refl
+or_swap false false c = refl
 
 exchange : (a b c d : Bool) → (a || b) || (c || d) ≡ (a || c) || (b || d)
 exchange a b c d =
-    or-assoc a b (c || d) ∙ ap (λ (t : Bool). a || t) (or-swap b c d) ∙ sym (or-assoc a c (b || d))
+    or_assoc a b (c || d) ∙ ap (λ (t : Bool). a || t) (or_swap b c d) ∙ sym (or_assoc a c (b || d))
 
 -- ---- the order doesn't matter
 
@@ -82,7 +82,7 @@ meets_any-filed a b k (x ∷ K) =
     two x k
     (λ p.
     ap (meets_any a b) (filed-past k x K p) ∙ ap (λ (t : Bool). meets a b (start_of x) (end_of x) || t) (meets_any-filed a b k K)
-    ∙ or-swap (meets a b (start_of x) (end_of x)) (meets a b (start_of k) (end_of k)) (meets_any a b K))
+    ∙ or_swap (meets a b (start_of x) (end_of x)) (meets a b (start_of k) (end_of k)) (meets_any a b K))
     (λ p. ap (meets_any a b) (filed-here k x K p))
 
 clash-filed : (k : ℕ) (K : List ℕ) → clash (filed k K) ≡ clash (k ∷ K)
@@ -96,14 +96,14 @@ clash-filed k (x ∷ K) =
     two x k
     (λ p.
     ap clash (filed-past k x K p)
-    ∙ ap₂ _||_ (meets_any-filed c d k K ∙ ap (λ (t : Bool). t || meets_any c d K) (meets-swap c d a b)) (clash-filed k K)
+    ∙ ap₂ ◌||◌ (meets_any-filed c d k K ∙ ap (λ (t : Bool). t || meets_any c d K) (meets-swap c d a b)) (clash-filed k K)
     ∙ exchange (meets a b c d) (meets_any c d K) (meets_any a b K) (clash K))
     (λ p. ap clash (filed-here k x K p))
 
 pub clash-sorted : (K : List ℕ) → clash (sorted K) ≡ clash K
 unfolding sorted clash meets_any
 clash-sorted [] = refl
-clash-sorted (k ∷ K) = clash-filed k (sorted K) ∙ ap₂ _||_ (any-sorted K) (clash-sorted K)
+clash-sorted (k ∷ K) = clash-filed k (sorted K) ∙ ap₂ ◌||◌ (any-sorted K) (clash-sorted K)
   where
     any-sorted : (K : List ℕ) → meets_any (start_of k) (end_of k) (sorted K) ≡ meets_any (start_of k) (end_of k) K
     any-sorted [] = refl
@@ -120,8 +120,8 @@ any-join c d e [] h l = refl
 any-join c d e (x ∷ K) h l =
     let a : ℕ = start_of x in
     let b : ℕ = end_of x in
-    ap₂ _||_
-    (meets-swap c e a b ∙ meets-join a b c d e (omega arith) h l ∙ ap₂ _||_ (meets-swap a b c d) (meets-swap a b d e))
+    ap₂ ◌||◌
+    (meets-swap c e a b ∙ meets-join a b c d e (omega arith) h l ∙ ap₂ ◌||◌ (meets-swap a b c d) (meets-swap a b d e))
     (any-join c d e K h l)
     ∙ exchange (meets c d a b) (meets d e a b) (meets_any c d K) (meets_any d e K)
 
@@ -131,19 +131,19 @@ module _ (size : ℕ) where
   unfolding joined_from meets_any
   any-from a b s last [] h o = refl
   any-from a b s last (k ∷ K) h o =
-      let e0 : bytes_of k ≡ size = o .each .0 in
-      same-or (start_of last + size) (start_of k)
+      let e0 : bytes_of k ≡ size = o.each.0 in
+      same_or (start_of last + size) (start_of k)
       (λ q.
-      let s′ : ℕ = s + size * 256 in
+      let s' : ℕ = s + size * 256 in
       let g = grown-start s size (small size k K s last o) in
       let f = grown-bytes s size (small size k K s last o) in
-      let u : end_of s ≡ start_of k = omega (arith, o .end) in
-      let v : end_of s′ ≡ end_of k = omega (arith, o .end) in
-      ap (meets_any a b) (joined-on size s last k K q) ∙ any-from a b s′ k K h (open-on size k K s last o q)
+      let u : end_of s ≡ start_of k = omega (arith, o.end) in
+      let v : end_of s' ≡ end_of k = omega (arith, o.end) in
+      ap (meets_any a b) (joined-on size s last k K q) ∙ any-from a b s' k K h (open-on size k K s last o q)
       ∙ ap (λ (t : Bool). t || meets_any a b K)
       (ap₂ (λ (y z : ℕ). meets a b y z) g v ∙ meets-join a b (start_of s) (end_of s) (end_of k) h (omega arith) (omega arith)
       ∙ ap (λ (y : ℕ). meets a b (start_of s) (end_of s) || meets a b y (end_of k)) u)
-      ∙ or-assoc (meets a b (start_of s) (end_of s)) (meets a b (start_of k) (end_of k)) (meets_any a b K))
+      ∙ or_assoc (meets a b (start_of s) (end_of s)) (meets a b (start_of k) (end_of k)) (meets_any a b K))
       (λ q.
       ap (meets_any a b) (joined-new size s last k K q)
       ∙ ap (λ (t : Bool). meets a b (start_of s) (end_of s) || t) (any-from a b k k K h (open-new size k K s last o)))
@@ -152,32 +152,32 @@ module _ (size : ℕ) where
   unfolding joined_from clash meets_any
   clash-from s last [] o = refl
   clash-from s last (k ∷ K) o =
-      let e0 : bytes_of k ≡ size = o .each .0 in
+      let e0 : bytes_of k ≡ size = o.each.0 in
       let a : ℕ = start_of s in
       let b : ℕ = end_of s in
       let c : ℕ = start_of k in
       let d : ℕ = end_of k in
-      same-or (start_of last + size) (start_of k)
+      same_or (start_of last + size) (start_of k)
       (λ q.
-      let s′ : ℕ = s + size * 256 in
+      let s' : ℕ = s + size * 256 in
       let g = grown-start s size (small size k K s last o) in
       let f = grown-bytes s size (small size k K s last o) in
-      let u : b ≡ c = omega (arith, o .end) in
-      let v : end_of s′ ≡ d = omega (arith, o .end) in
-      ap clash (joined-on size s last k K q) ∙ clash-from s′ k K (open-on size k K s last o q)
+      let u : b ≡ c = omega (arith, o.end) in
+      let v : end_of s' ≡ d = omega (arith, o.end) in
+      ap clash (joined-on size s last k K q) ∙ clash-from s' k K (open-on size k K s last o q)
       ∙ ap (λ (t : Bool). t || clash K)
       (ap₂ (λ (y z : ℕ). meets_any y z K) g v ∙ any-join a b d K (omega arith) (omega arith)
       ∙ ap (λ (y : ℕ). meets_any a b K || meets_any y d K) u)
-      ∙ or-assoc (meets_any a b K) (meets_any c d K) (clash K)
+      ∙ or_assoc (meets_any a b K) (meets_any c d K) (clash K)
       ∙ ap (λ (t : Bool). (t || meets_any a b K) || (meets_any c d K || clash K)) (sym (meets-right a b c d (omega arith))))
       (λ q.
       ap clash (joined-new size s last k K q)
-      ∙ ap₂ _||_ (any-from a b k k K (omega arith) (open-new size k K s last o)) (clash-from k k K (open-new size k K s last o)))
+      ∙ ap₂ ◌||◌ (any-from a b k k K (omega arith) (open-new size k K s last o)) (clash-from k k K (open-new size k K s last o)))
 
   pub clash-joined : (K : List ℕ) → Each (λ k. bytes_of k ≡ size) K → length K * size ≤ 256 → clash (joined size K) ≡ clash K
   unfolding joined clash
   clash-joined [] e h = refl
-  clash-joined (k ∷ K) e h = clash-from k k K (open-first size k K (e .0) (e .1) h)
+  clash-joined (k ∷ K) e h = clash-from k k K (open-first size k K e.0 e.1 h)
 
 -- ---- ascending stretches: the neighbours decide
 
@@ -186,14 +186,14 @@ module _ (L : ℕ) where
   unfolding meets_any
   none-beyond a f q [] h r = refl
   none-beyond a f q (k ∷ K) h r =
-      let r0 : q ≤ start_of k = r .0 in
-      ap₂ _||_ (meets-right a f (start_of k) (end_of k) (omega arith)) (none-beyond a f (start_of k) K (omega arith) (r .2))
+      let r0 : q ≤ start_of k = r.0 in
+      ap₂ ◌||◌ (meets-right a f (start_of k) (end_of k) (omega arith)) (none-beyond a f (start_of k) K (omega arith) r.2)
 
   parted-from : (p f : ℕ) (K : List ℕ) → p < f → Rising L p K → not (parted f K) ≡ meets_any p f K || clash K
   unfolding parted clash meets_any
   parted-from p f [] h r = refl
   parted-from p f (k ∷ K) h r =
-      let r0 : p ≤ start_of k = r .0 in
+      let r0 : p ≤ start_of k = r.0 in
       let rest : Bool = parted (end_of k) K in
       two (start_of k) f
       (λ l.
@@ -202,16 +202,16 @@ module _ (L : ℕ) where
       (meets-yes p f (start_of k) (end_of k) (omega arith) l)))
       (λ l.
       ap (λ (t : Bool). not (cond t false rest)) (le-ltb (start_of k) f l)
-      ∙ parted-from (start_of k) (end_of k) K (omega arith) (r .2)
+      ∙ parted-from (start_of k) (end_of k) K (omega arith) r.2
       ∙ sym (ap₂ (λ (t u : Bool). (t || u) || (meets_any (start_of k) (end_of k) K || clash K))
-      (meets-right p f (start_of k) (end_of k) l) (none-beyond p f (start_of k) K l (r .2))))
+      (meets-right p f (start_of k) (end_of k) l) (none-beyond p f (start_of k) K l r.2)))
 
   pub parted-clash : (K : List ℕ) → Rising L 0 K → not (parted 0 K) ≡ clash K
   unfolding parted clash
   parted-clash [] r = refl
   parted-clash (k ∷ K) r =
       ap (λ (t : Bool). not (cond t false (parted (end_of k) K))) (le-ltb (start_of k) 0 (omega arith))
-      ∙ parted-from (start_of k) (end_of k) K (omega arith) (r .2)
+      ∙ parted-from (start_of k) (end_of k) K (omega arith) r.2
 
 -- ---- keys: one meets a lower one just where two meet
 
@@ -233,20 +233,20 @@ met-more x lower (k ∷ K) =
     let b : ℕ = end_of x in
     let c : ℕ = start_of k in
     let d : ℕ = end_of k in
-    ap₂ _||_ (ap (λ (t : Bool). t || meets_any c d lower) (meets-swap c d a b)) (met-more x lower K)
+    ap₂ ◌||◌ (ap (λ (t : Bool). t || meets_any c d lower) (meets-swap c d a b)) (met-more x lower K)
     ∙ exchange (meets a b c d) (meets_any c d lower) (meets_any a b K) (met_by lower K)
 
-found-from : (lower K : List ℕ) → is_found (meeting_from lower K) ≡ met_by lower K || clash K
+found_from : (lower K : List ℕ) → is_found (meeting_from lower K) ≡ met_by lower K || clash K
 unfolding meeting_from met_by clash
-found-from lower [] = refl
-found-from lower (k ∷ K) =
+found_from lower [] = refl
+found_from lower (k ∷ K) =
     let a : ℕ = start_of k in
     let b : ℕ = end_of k in
     go (meets_any a b lower) (is_found (meeting_from (k ∷ lower) K))
     ∙ ap (λ (t : Bool). meets_any a b lower || t)
-    (found-from (k ∷ lower) K ∙ ap (λ (t : Bool). t || clash K) (met-more k lower K ∙ or-flip (meets_any a b K) (met_by lower K))
-    ∙ or-assoc (met_by lower K) (meets_any a b K) (clash K))
-    ∙ sym (or-assoc (meets_any a b lower) (met_by lower K) (meets_any a b K || clash K))
+    (found_from (k ∷ lower) K ∙ ap (λ (t : Bool). t || clash K) (met-more k lower K ∙ or-flip (meets_any a b K) (met_by lower K))
+    ∙ or_assoc (met_by lower K) (meets_any a b K) (clash K))
+    ∙ sym (or_assoc (meets_any a b lower) (met_by lower K) (meets_any a b K || clash K))
   where
     go : (t u : Bool) → is_found (cond t (some k) (meeting_from (k ∷ lower) K)) ≡ t || is_found (meeting_from (k ∷ lower) K)
     go true u = refl
@@ -259,7 +259,7 @@ found-from lower (k ∷ K) =
     or-flip false false = refl
 
 pub found-clash : (K : List ℕ) → is_found (first_meeting K) ≡ clash K
-found-clash K = found-from [] K ∙ ap (λ (t : Bool). t || clash K) (met-none K)
+found-clash K = found_from [] K ∙ ap (λ (t : Bool). t || clash K) (met-none K)
 
 -- what a pass over the stretches in order tells of the keys
 pub parted-keys : (L size : ℕ) (K : List ℕ) → Each (λ k. bytes_of k ≡ size) K → length K * size ≤ 256 → Rising L 0 (sorted (joined size K))

@@ -1,11 +1,7 @@
 -- Stretches that share a byte, and the first key that shares one with a lower key. Assumes nothing.
-use Prim.Native.Nat.{ℕ, zero, suc}
-use mathlib.Core.Bool.{Bool, true, false, cond, _&&_, _||_}
-use mathlib.Core.List.{List, [], _∷_}
-use mathlib.Core.Option.{Option, none, some}
-use lib.Dec.{ltb}
-use lib.ListN.{get_or}
-use Rattle·stretches.specs.Stretches.{start_of, end_of}
+use Rattle.std.specs.Prelude.{ℕ, zero, suc, Bool, true, false, cond, ◌&&◌, ◌||◌, List, [], ◌∷◌, ltb, get_or}
+use Rattle.std.proofs.Math.Option.{Option, none, some}
+use Rattle.stretches.specs.Stretches.{start_of, end_of}
 
 -- no stretch starts before f, or before the end of the one before it
 unfoldable pub parted : ℕ → List ℕ → Bool

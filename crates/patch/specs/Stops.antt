@@ -1,10 +1,8 @@
 -- Where reading ends in a whole string, in numbers: what `whole` answers. Assumes nothing.
-use Prim.Native.Nat.{ℕ, _-_}
-use mathlib.Core.Bool.{false}
-use lib.Dec.{eqb}
-use Rattle·reading.specs.Reader.{Found, whole, broken}
-use Rattle·reading.specs.Stops.{behind}
-use Rattle·reading.specs.declared.Stop.{Stop}
+use Rattle.std.specs.Prelude.{ℕ, ◌-◌, false, eqb}
+use Rattle.reading.specs.Reader.{Found, whole, broken}
+use Rattle.reading.specs.Stops.{behind}
+use Rattle.reading.specs.declared.Stop.{Stop}
 
 -- where they end in a string of n bytes: "Nothing follows."
 unfoldable pub whole_stop : ℕ → Found → Stop

@@ -1,20 +1,20 @@
 -- A head by its index in the string and a step by its tests, as code finds them. Assumes nothing.
-use mathlib.Core.Path.{_≡_, refl, sym, ap, _∙_}
-use Prim.Native.Nat.{ℕ, _+_, _-_, _≤_}
+use mathlib.Core.Path.{◌≡◌, refl, sym, ap, ◌∙◌}
+use Prim.Native.Nat.{ℕ, ◌+◌, ◌-◌, ◌≤◌}
 use mathlib.Core.List.{List}
 use mathlib.Core.Bool.{true, false}
 use native.Mathlib.Omega.{arith}
 use native.Mathlib.Nat.{add-zero}
 use lib.ListN.{length, take, drop, get_or, length-drop}
 use lib.Seq.{get_or-drop, drop-drop}
-use borrow.Author.Tests.{eq-eqb, ne-eqb}
-use Rattle·endian.specs.LittleEndian.{le_val}
-use Rattle·reading·specs.specs.Reader.{head_at, admits, past, on_head, step_at}
-use Rattle·reading·specs.specs.declared.Head.{Head}
-use Rattle·reading·specs.specs.declared.Head.the-variants.{Start, Trailer, Neither}
-use Rattle·reading·specs.specs.declared.Step.the-variants.{Next, End, Bad}
-use Rattle·reading·specs.specs.declared.Cursor.{Cursor}
-use Rattle·reading·proofs.proofs.Steps.{head-run, head-trailer, head-run-inv, head-trailer-inv}
+use borrow.Author.Tests.{eq-eqb, ne_eqb}
+use Rattle.endian.specs.LittleEndian.{le_val}
+use Rattle.reading.specs.Reader.{head_at, admits, past, on_head, step_at}
+use Rattle.reading.specs.declared.Head.{Head}
+use Rattle.reading.specs.declared.Head.TheVariants.{Start, Trailer, Neither}
+use Rattle.reading.specs.declared.Step.TheVariants.{Next, End, Bad}
+use Rattle.reading.specs.declared.Cursor.{Cursor}
+use Rattle.reading.proofs.Steps.{head-run, head-trailer, head-run-inv, head-trailer-inv}
 
 -- ---- a head by its index in the whole, as code reads it
 
@@ -35,26 +35,26 @@ pub record TrailerIn (s : List ℕ) (at k : ℕ) : Type 0 where
 first-byte : (s : List ℕ) (at : ℕ) → get_or (drop at s) 0 0 ≡ get_or s at 0
 first-byte s at = get_or-drop at s 0 0 ∙ ap (λ (z : ℕ). get_or s z 0) (add-zero at)
 
-pub run-in : (s : List ℕ) (at st n : ℕ) → RunIn s at st n → Start st n ≡ head_at s at
+pub run_in : (s : List ℕ) (at st n : ℕ) → RunIn s at st n → Start st n ≡ head_at s at
 unfolding head_at
-run-in s at st n h =
+run_in s at st n h =
     sym (head-run (drop at s) st n (record {
-      long = simp length-drop (h .long);
-      mark0 = first-byte s at ∙ h .mark0;
-      mark1 = get_or-drop at s 1 0 ∙ h .mark1;
-      start = ap (λ (z : List ℕ). le_val (take 8 z)) (drop-drop 2 at s) ∙ sym (h .start);
-      count = ap (λ (z : List ℕ). le_val (take 2 z)) (drop-drop 10 at s) ∙ sym (h .count);
-      fits = simp length-drop (h .fits);
+      long = simp length-drop h.long;
+      mark0 = first-byte s at ∙ h.mark0;
+      mark1 = get_or-drop at s 1 0 ∙ h.mark1;
+      start = ap (λ (z : List ℕ). le_val (take 8 z)) (drop-drop 2 at s) ∙ sym h.start;
+      count = ap (λ (z : List ℕ). le_val (take 2 z)) (drop-drop 10 at s) ∙ sym h.count;
+      fits = simp length-drop h.fits;
     }))
 
 pub trailer-in : (s : List ℕ) (at k : ℕ) → TrailerIn s at k → Trailer k ≡ head_at s at
 unfolding head_at
 trailer-in s at k h =
     sym (head-trailer (drop at s) k (record {
-      long = simp length-drop (h .long);
-      mark0 = first-byte s at ∙ h .mark0;
-      mark1 = get_or-drop at s 1 0 ∙ h .mark1;
-      count = ap (λ (z : List ℕ). le_val (take 2 z)) (drop-drop 2 at s) ∙ sym (h .count);
+      long = simp length-drop h.long;
+      mark0 = first-byte s at ∙ h.mark0;
+      mark1 = get_or-drop at s 1 0 ∙ h.mark1;
+      count = ap (λ (z : List ℕ). le_val (take 2 z)) (drop-drop 2 at s) ∙ sym h.count;
     }))
 
 pub run-in-inv : (s : List ℕ) (at st n : ℕ) → head_at s at ≡ Start st n → RunIn s at st n
@@ -62,12 +62,12 @@ unfolding head_at
 run-in-inv s at st n e =
     let h = head-run-inv (drop at s) st n e in
     record {
-      long = omega (arith, length-drop at s, h .long);
-      mark0 = sym (first-byte s at) ∙ h .mark0;
-      mark1 = sym (get_or-drop at s 1 0) ∙ h .mark1;
-      start = sym (h .start) ∙ ap (λ (z : List ℕ). le_val (take 8 z)) (drop-drop 2 at s);
-      count = sym (h .count) ∙ ap (λ (z : List ℕ). le_val (take 2 z)) (drop-drop 10 at s);
-      fits = omega (arith, length-drop at s, h .fits);
+      long = omega (arith, length-drop at s, h.long);
+      mark0 = sym (first-byte s at) ∙ h.mark0;
+      mark1 = sym (get_or-drop at s 1 0) ∙ h.mark1;
+      start = sym h.start ∙ ap (λ (z : List ℕ). le_val (take 8 z)) (drop-drop 2 at s);
+      count = sym h.count ∙ ap (λ (z : List ℕ). le_val (take 2 z)) (drop-drop 10 at s);
+      fits = omega (arith, length-drop at s, h.fits);
     }
 
 pub trailer-in-inv : (s : List ℕ) (at k : ℕ) → head_at s at ≡ Trailer k → TrailerIn s at k
@@ -75,10 +75,10 @@ unfolding head_at
 trailer-in-inv s at k e =
     let h = head-trailer-inv (drop at s) k e in
     record {
-      long = omega (arith, length-drop at s, h .long);
-      mark0 = sym (first-byte s at) ∙ h .mark0;
-      mark1 = sym (get_or-drop at s 1 0) ∙ h .mark1;
-      count = sym (h .count) ∙ ap (λ (z : List ℕ). le_val (take 2 z)) (drop-drop 2 at s);
+      long = omega (arith, length-drop at s, h.long);
+      mark0 = sym (first-byte s at) ∙ h.mark0;
+      mark1 = sym (get_or-drop at s 1 0) ∙ h.mark1;
+      count = sym h.count ∙ ap (λ (z : List ℕ). le_val (take 2 z)) (drop-drop 2 at s);
     }
 
 -- neither
@@ -92,23 +92,23 @@ neither-in s at f g = go (head_at s at) refl
 
 -- ---- a step by what its head and its tests say, as code finds them
 
-pub step-neither : (s : List ℕ) (c : Cursor) → head_at s (c .at) ≡ Neither → Bad ≡ step_at s c
+pub step-neither : (s : List ℕ) (c : Cursor) → head_at s c.at ≡ Neither → Bad ≡ step_at s c
 unfolding step_at on_head
 step-neither s c e = sym (ap (on_head c) e)
 
-pub step-trailer : (s : List ℕ) (c : Cursor) (k : ℕ) → head_at s (c .at) ≡ Trailer k → k ≡ c .runs → End (c .at + 4) ≡ step_at s c
+pub step-trailer : (s : List ℕ) (c : Cursor) (k : ℕ) → head_at s c.at ≡ Trailer k → k ≡ c.runs → End (c.at + 4) ≡ step_at s c
 unfolding step_at on_head
-step-trailer s c k e h = sym (ap (on_head c) e ∙ simp (eq-eqb k (c .runs) h))
+step-trailer s c k e h = sym (ap (on_head c) e ∙ simp (eq-eqb k c.runs h))
 
-pub step-trailer-no : (s : List ℕ) (c : Cursor) (k : ℕ) → head_at s (c .at) ≡ Trailer k → (k ≡ c .runs → ⊥) → Bad ≡ step_at s c
+pub step-trailer-no : (s : List ℕ) (c : Cursor) (k : ℕ) → head_at s c.at ≡ Trailer k → (k ≡ c.runs → ⊥) → Bad ≡ step_at s c
 unfolding step_at on_head
-step-trailer-no s c k e h = sym (ap (on_head c) e ∙ simp (ne-eqb k (c .runs) h))
+step-trailer-no s c k e h = sym (ap (on_head c) e ∙ simp (ne_eqb k c.runs h))
 
-pub step-run : (s : List ℕ) (c : Cursor) (st n : ℕ) → head_at s (c .at) ≡ Start st n → admits c st n ≡ true
-    → Next st (c .at + 12) n (past c st n) ≡ step_at s c
+pub step_run : (s : List ℕ) (c : Cursor) (st n : ℕ) → head_at s c.at ≡ Start st n → admits c st n ≡ true
+    → Next st (c.at + 12) n (past c st n) ≡ step_at s c
 unfolding step_at on_head
-step-run s c st n e h = sym (ap (on_head c) e ∙ simp h)
+step_run s c st n e h = sym (ap (on_head c) e ∙ simp h)
 
-pub step-run-no : (s : List ℕ) (c : Cursor) (st n : ℕ) → head_at s (c .at) ≡ Start st n → admits c st n ≡ false → Bad ≡ step_at s c
+pub step-run-no : (s : List ℕ) (c : Cursor) (st n : ℕ) → head_at s c.at ≡ Start st n → admits c st n ≡ false → Bad ≡ step_at s c
 unfolding step_at on_head
 step-run-no s c st n e h = sym (ap (on_head c) e ∙ simp h)

@@ -1,42 +1,42 @@
 -- The loop over the steps comes to where reading ends. Assumes nothing.
-use mathlib.Core.Path.{_≡_, refl, sym, ap, _∙_, subst}
-use Prim.Native.Nat.{ℕ, zero, suc, _+_, _-_, _≤_, _<_}
-use mathlib.Core.List.{List, [], _∷_}
+use mathlib.Core.Path.{◌≡◌, refl, sym, ap, ◌∙◌, subst}
+use Prim.Native.Nat.{ℕ, zero, suc, ◌+◌, ◌-◌, ◌≤◌, ◌<◌}
+use mathlib.Core.List.{List, [], ◌∷◌}
 use mathlib.Core.Bool.{Bool, true, false}
 use native.Mathlib.Omega.{arith}
 use lib.ListN.{length, take, drop, length-drop}
-use Rattle·writes.specs.Sets.{Run, run, payload}
-use Rattle·writes.specs.Sizes.{max_runs}
-use Rattle·reading·specs.specs.Reader.{past, step_at, Found, whole, broken, before, on_step, scan, from, read_at}
-use Rattle·reading·specs.specs.Stops.{last_of, stop_of}
-use Rattle·reading·specs.specs.declared.Step.{Step}
-use Rattle·reading·specs.specs.declared.Step.the-variants.{Next, End, Bad}
-use Rattle·reading·specs.specs.declared.Cursor.{Cursor}
-use Rattle·reading·specs.specs.declared.Stop.{Stop}
-use Rattle·reading·proofs.proofs.Steps.{TakenAt, step-next-inv, step-end-inv, taken-length}
+use Rattle.writes.specs.Sets.{Run, run, payload}
+use Rattle.writes.specs.Sizes.{max_runs}
+use Rattle.reading.specs.Reader.{past, step_at, Found, whole, broken, before, on_step, scan, from, read_at}
+use Rattle.reading.specs.Stops.{last_of, stop_of}
+use Rattle.reading.specs.declared.Step.{Step}
+use Rattle.reading.specs.declared.Step.TheVariants.{Next, End, Bad}
+use Rattle.reading.specs.declared.Cursor.{Cursor}
+use Rattle.reading.specs.declared.Stop.{Stop}
+use Rattle.reading.proofs.Steps.{TakenAt, step-next-inv, step-end-inv, taken-length}
 
 -- ---- what is still to be read from a cursor, and where that ends
 
 unfoldable pub rest : List ℕ → Cursor → Found
-rest s c = scan (suc max_runs - c .runs) s c
+rest s c = scan (suc max_runs - c.runs) s c
 
 unfoldable pub stop : Bool → Cursor → List Run → ℕ → Stop
-stop b c rs a = record { ended = b; runs = c .runs + length rs; last = last_of (c .last) rs; bytes = c .bytes + payload rs; at = a }
+stop b c rs a = record { ended = b; runs = c.runs + length rs; last = last_of c.last rs; bytes = c.bytes + payload rs; at = a }
 
 unfoldable pub stop_from : Cursor → Found → Stop
 stop_from c (whole rs e) = stop true c rs (e - 4)
 stop_from c (broken rs a) = stop false c rs a
 
-pub rest-step : (s : List ℕ) (c : Cursor) (w : Step) → c .runs ≤ max_runs → step_at s c ≡ w
-    → rest s c ≡ on_step (scan (max_runs - c .runs) s) s c w
+pub rest-step : (s : List ℕ) (c : Cursor) (w : Step) → c.runs ≤ max_runs → step_at s c ≡ w
+    → rest s c ≡ on_step (scan (max_runs - c.runs) s) s c w
 unfolding rest scan
 rest-step s c w h e =
-    let q : suc max_runs - c .runs ≡ suc (max_runs - c .runs) = omega arith in
-    ap (λ (n : ℕ). scan n s c) q ∙ ap (on_step (scan (max_runs - c .runs) s) s c) e
+    let q : suc max_runs - c.runs ≡ suc (max_runs - c.runs) = omega arith in
+    ap (λ (n : ℕ). scan n s c) q ∙ ap (on_step (scan (max_runs - c.runs) s) s c) e
 
 -- the loop's invariant
 pub record Going (s : List ℕ) (a : ℕ) (c : Cursor) : Type 0 where
-  pub few : c .runs ≤ max_runs
+  pub few : c.runs ≤ max_runs
   pub same : stop_of (read_at s a) ≡ stop_from c (rest s c)
 
 pub going-first : (s : List ℕ) (a : ℕ) → Going s a (from a)
@@ -55,65 +55,65 @@ going-first s a =
         let j : payload rs ≡ 0 + payload rs = omega arith in
         cc
 
-pub going-next : (s : List ℕ) (a : ℕ) (c : Cursor) (st at n : ℕ) (c′ : Cursor) → Going s a c → step_at s c ≡ Next st at n c′
-    → Going s a c′
+pub going_next : (s : List ℕ) (a : ℕ) (c : Cursor) (st at n : ℕ) (c' : Cursor) → Going s a c → step_at s c ≡ Next st at n c'
+    → Going s a c'
 unfolding on_step past rest stop_from stop payload last_of
-going-next s a c st at n c′ g e =
-    let k = step-next-inv s c st at n c′ e in
-    let ad = k .admitted in
-    let w : max_runs - c .runs ≡ suc max_runs - c′ .runs = omega (arith, ap (λ (z : Cursor). z .runs) (k .next)) in
-    let q = rest-step s c (Next st at n c′) (g .few) e ∙ ap (λ (z : ℕ). before (run st (take n (drop at s))) (scan z s c′)) w in
+going_next s a c st at n c' g e =
+    let k = step-next-inv s c st at n c' e in
+    let ad = k.admitted in
+    let w : max_runs - c.runs ≡ suc max_runs - c'.runs = omega (arith, ap (λ (z : Cursor). z.runs) k.next) in
+    let q = rest-step s c (Next st at n c') g.few e ∙ ap (λ (z : ℕ). before (run st (take n (drop at s))) (scan z s c')) w in
     record {
-      few = omega (arith, ap (λ (z : Cursor). z .runs) (k .next), ad .few);
-      same = g .same ∙ ap (stop_from c) q ∙ go (scan (suc max_runs - c′ .runs) s c′);
+      few = omega (arith, ap (λ (z : Cursor). z.runs) k.next, ad.few);
+      same = g.same ∙ ap (stop_from c) q ∙ go (scan (suc max_runs - c'.runs) s c');
     }
   where
-    k : TakenAt s c st at n c′
-    k = step-next-inv s c st at n c′ e
+    k : TakenAt s c st at n c'
+    k = step-next-inv s c st at n c' e
 
     -- a run more
-    more : (b : Bool) (rs : List Run) (d : ℕ) → stop b c (run st (take n (drop at s)) ∷ rs) d ≡ stop b c′ rs d
+    more : (b : Bool) (rs : List Run) (d : ℕ) → stop b c (run st (take n (drop at s)) ∷ rs) d ≡ stop b c' rs d
     more b rs d =
-        let l = taken-length s c st at n c′ k in
-        let x : c .runs + suc (length rs) ≡ c′ .runs + length rs = omega (arith, ap (λ (z : Cursor). z .runs) (k .next)) in
-        let y : c .bytes + (length (take n (drop at s)) + payload rs) ≡ c′ .bytes + payload rs =
-        omega (arith, ap (λ (z : Cursor). z .bytes) (k .next)) in
-        let z : st + (length (take n (drop at s)) - 1) ≡ c′ .last = omega (arith, ap (λ (z : Cursor). z .last) (k .next)) in
+        let l = taken-length s c st at n c' k in
+        let x : c.runs + suc (length rs) ≡ c'.runs + length rs = omega (arith, ap (λ (z : Cursor). z.runs) k.next) in
+        let y : c.bytes + (length (take n (drop at s)) + payload rs) ≡ c'.bytes + payload rs =
+        omega (arith, ap (λ (z : Cursor). z.bytes) k.next) in
+        let z : st + (length (take n (drop at s)) - 1) ≡ c'.last = omega (arith, ap (λ (z : Cursor). z.last) k.next) in
         cc
 
-    go : (o : Found) → stop_from c (before (run st (take n (drop at s))) o) ≡ stop_from c′ o
+    go : (o : Found) → stop_from c (before (run st (take n (drop at s))) o) ≡ stop_from c' o
     go (whole rs d) = more true rs (d - 4)
     go (broken rs d) = more false rs d
 
-pub going-less : (s : List ℕ) (c : Cursor) (st at n : ℕ) (c′ : Cursor) → step_at s c ≡ Next st at n c′
-    → max_runs - c′ .runs < max_runs - c .runs
+pub going_less : (s : List ℕ) (c : Cursor) (st at n : ℕ) (c' : Cursor) → step_at s c ≡ Next st at n c'
+    → max_runs - c'.runs < max_runs - c.runs
 unfolding past
-going-less s c st at n c′ e =
-    let k = step-next-inv s c st at n c′ e in
-    let ad = k .admitted in
-    omega (arith, ap (λ (z : Cursor). z .runs) (k .next), ad .few)
+going_less s c st at n c' e =
+    let k = step-next-inv s c st at n c' e in
+    let ad = k.admitted in
+    omega (arith, ap (λ (z : Cursor). z.runs) k.next, ad.few)
 
 -- the steps' end, at a trailer and before what can't be accepted
 stopped : (b : Bool) (c : Cursor)
-    → stop b c [] (c .at) ≡ record { ended = b; runs = c .runs; last = c .last; bytes = c .bytes; at = c .at }
+    → stop b c [] c.at ≡ record { ended = b; runs = c.runs; last = c.last; bytes = c.bytes; at = c.at }
 unfolding stop payload last_of
 stopped b c =
-    let x : c .runs + 0 ≡ c .runs = omega arith in
-    let y : c .bytes + 0 ≡ c .bytes = omega arith in
+    let x : c.runs + 0 ≡ c.runs = omega arith in
+    let y : c.bytes + 0 ≡ c.bytes = omega arith in
     cc
 
 pub stop-end : (s : List ℕ) (a : ℕ) (c : Cursor) (e : ℕ) → Going s a c → step_at s c ≡ End e
-    → record { ended = true; runs = c .runs; last = c .last; bytes = c .bytes; at = c .at } ≡ stop_of (read_at s a)
+    → record { ended = true; runs = c.runs; last = c.last; bytes = c.bytes; at = c.at } ≡ stop_of (read_at s a)
 unfolding on_step stop_from
 stop-end s a c e g q =
     let k = step-end-inv s c e q in
-    let w : e - 4 ≡ c .at = omega (arith, k .index) in
-    sym (g .same ∙ ap (stop_from c) (rest-step s c (End e) (g .few) q) ∙ ap (stop true c []) w ∙ stopped true c)
+    let w : e - 4 ≡ c.at = omega (arith, k.index) in
+    sym (g.same ∙ ap (stop_from c) (rest-step s c (End e) g.few q) ∙ ap (stop true c []) w ∙ stopped true c)
 
 pub stop-bad : (s : List ℕ) (a : ℕ) (c : Cursor) → Going s a c → step_at s c ≡ Bad
-    → record { ended = false; runs = c .runs; last = c .last; bytes = c .bytes; at = c .at } ≡ stop_of (read_at s a)
+    → record { ended = false; runs = c.runs; last = c.last; bytes = c.bytes; at = c.at } ≡ stop_of (read_at s a)
 unfolding on_step stop_from
-stop-bad s a c g q = sym (g .same ∙ ap (stop_from c) (rest-step s c Bad (g .few) q) ∙ stopped false c)
+stop-bad s a c g q = sym (g.same ∙ ap (stop_from c) (rest-step s c Bad g.few q) ∙ stopped false c)
 
 -- ---- a trailer's four bytes
 
@@ -126,21 +126,21 @@ unfolding Fits
 before-fits s r (whole rs e) h = h
 before-fits s r (broken rs a) h = tt
 
-step-fits : (s : List ℕ) (c : Cursor) (go : Cursor → Found) → ((c′ : Cursor) → Fits s (go c′)) → (w : Step) → step_at s c ≡ w
+step_fits : (s : List ℕ) (c : Cursor) (go : Cursor → Found) → ((c' : Cursor) → Fits s (go c')) → (w : Step) → step_at s c ≡ w
     → Fits s (on_step go s c w)
 unfolding on_step Fits
-step-fits s c go h (Next st at n c′) q = before-fits s (run st (take n (drop at s))) (go c′) (h c′)
-step-fits s c go h (End e) q =
+step_fits s c go h (Next st at n c') q = before-fits s (run st (take n (drop at s))) (go c') (h c')
+step_fits s c go h (End e) q =
     let k = step-end-inv s c e q in
-    let hd = k .head in
-    (omega (arith, k .index), omega (arith, k .index, hd .long, length-drop (c .at) s))
-step-fits s c go h Bad q = tt
+    let hd = k.head in
+    (omega (arith, k.index), omega (arith, k.index, hd.long, length-drop c.at s))
+step_fits s c go h Bad q = tt
 
 scan-fits : (f : ℕ) (s : List ℕ) (c : Cursor) → Fits s (scan f s c)
 unfolding scan Fits
 scan-fits zero s c = tt
-scan-fits (suc f) s c = step-fits s c (scan f s) (λ c′. scan-fits f s c′) (step_at s c) refl
+scan-fits (suc f) s c = step_fits s c (scan f s) (λ c'. scan-fits f s c') (step_at s c) refl
 
-pub read-fits : (s : List ℕ) (a : ℕ) (rs : List Run) (e : ℕ) → read_at s a ≡ whole rs e → (4 ≤ e) × (e ≤ length s)
+pub read_fits : (s : List ℕ) (a : ℕ) (rs : List Run) (e : ℕ) → read_at s a ≡ whole rs e → (4 ≤ e) × (e ≤ length s)
 unfolding read_at Fits
-read-fits s a rs e q = subst (Fits s) q (scan-fits (suc max_runs) s (from a))
+read_fits s a rs e q = subst (Fits s) q (scan-fits (suc max_runs) s (from a))

@@ -1,19 +1,14 @@
 -- The reader: what stands at an index, one step, and all steps up to a trailer, whatever follows. That it takes exactly the
 -- encodings of sets within the sizes is ReadsEncodings in patch/specs/Statements.antt. Assumes nothing.
-use Prim.Native.Nat.{ℕ, zero, suc, _+_, _-_, _^_}
-use mathlib.Core.List.{List, [], _∷_}
-use mathlib.Core.Bool.{Bool, cond, _&&_}
-use mathlib.Core.Path.{_≡_}
-use lib.ListN.{length, take, drop, get_or}
-use lib.Dec.{leb, ltb, eqb}
-use Rattle·endian.specs.LittleEndian.{le_val}
-use Rattle·writes.specs.Sets.{Run, run}
-use Rattle·writes.specs.Sizes.{max_runs, max_bytes}
-use Rattle·reading·specs.specs.declared.Head.{Head}
-use Rattle·reading·specs.specs.declared.Head.the-variants.{Start, Trailer, Neither}
-use Rattle·reading·specs.specs.declared.Step.{Step}
-use Rattle·reading·specs.specs.declared.Step.the-variants.{Next, End, Bad}
-use Rattle·reading·specs.specs.declared.Cursor.{Cursor}
+use Rattle.std.specs.Prelude.{ℕ, zero, suc, ◌+◌, ◌-◌, ◌^◌, List, [], ◌∷◌, Bool, cond, ◌&&◌, ◌≡◌, length, take, drop, get_or, leb, ltb, eqb}
+use Rattle.endian.specs.LittleEndian.{le_val}
+use Rattle.writes.specs.Sets.{Run, run}
+use Rattle.writes.specs.Sizes.{max_runs, max_bytes}
+use Rattle.reading.specs.declared.Head.{Head}
+use Rattle.reading.specs.declared.Head.TheVariants.{Start, Trailer, Neither}
+use Rattle.reading.specs.declared.Step.{Step}
+use Rattle.reading.specs.declared.Step.TheVariants.{Next, End, Bad}
+use Rattle.reading.specs.declared.Cursor.{Cursor}
 
 -- what bytes begin with: "mark 50 45 and the number of runs (2 bytes, little-endian)", or "mark 50 52, start address (8 bytes,
 -- little-endian), length (2 bytes, little-endian), then the bytes"
@@ -46,25 +41,25 @@ unfoldable pub admits : Cursor → ℕ → ℕ → Bool
 unfolding floor_of
 admits c start n =
     leb 1 n
-    && ltb (c .runs) max_runs
-    && leb (c .bytes + n) max_bytes
+    && ltb c.runs max_runs
+    && leb (c.bytes + n) max_bytes
     && leb (start + n) (2 ^ 64)
-    && leb (floor_of (c .runs) (c .last)) start
+    && leb (floor_of c.runs c.last) start
 
 -- the cursor behind a run
 unfoldable pub past : Cursor → ℕ → ℕ → Cursor
-past c start n = record { at = c .at + 12 + n; runs = c .runs + 1; bytes = c .bytes + n; last = start + (n - 1) }
+past c start n = record { at = c.at + 12 + n; runs = c.runs + 1; bytes = c.bytes + n; last = start + (n - 1) }
 
 -- a run that may come next is taken, and a trailer that counts the runs behind the cursor
 unfoldable pub on_head : Cursor → Head → Step
 unfolding admits past
 on_head c Neither = Bad
-on_head c (Trailer n) = cond (eqb n (c .runs)) (End (c .at + 4)) Bad
-on_head c (Start start n) = cond (admits c start n) (Next start (c .at + 12) n (past c start n)) Bad
+on_head c (Trailer n) = cond (eqb n c.runs) (End (c.at + 4)) Bad
+on_head c (Start start n) = cond (admits c start n) (Next start (c.at + 12) n (past c start n)) Bad
 
 unfoldable pub step_at : List ℕ → Cursor → Step
 unfolding head_at on_head
-step_at s c = on_head c (head_at s (c .at))
+step_at s c = on_head c (head_at s c.at)
 
 -- a run that may come next stands at the cursor, or the trailer
 abbrev pub Stands : List ℕ → Cursor → Type 0
@@ -80,14 +75,14 @@ before r (whole rs e) = whole (r ∷ rs) e
 before r (broken rs a) = broken (r ∷ rs) a
 
 unfoldable pub on_step : (Cursor → Found) → List ℕ → Cursor → Step → Found
-on_step go s c (Next start at n c′) = before (run start (take n (drop at s))) (go c′)
+on_step go s c (Next start at n c') = before (run start (take n (drop at s))) (go c')
 on_step go s c (End e) = whole [] e
-on_step go s c Bad = broken [] (c .at)
+on_step go s c Bad = broken [] c.at
 
 -- at most f steps
 unfoldable pub scan : ℕ → List ℕ → Cursor → Found
 unfolding step_at on_step
-scan zero s c = broken [] (c .at)
+scan zero s c = broken [] c.at
 scan (suc f) s c = on_step (scan f s) s c (step_at s c)
 
 abbrev pub from : ℕ → Cursor

@@ -1,13 +1,10 @@
 -- Where reading ends and what was read up to there, in numbers: what `walk` and `read` answer. Assumes nothing.
-use Prim.Native.Nat.{ℕ, _+_, _-_}
-use mathlib.Core.Bool.{Bool, true, false}
-use mathlib.Core.List.{List, [], _∷_}
-use lib.ListN.{length}
-use Rattle·writes.specs.Sets.{Run, run, payload}
-use Rattle·reading·specs.specs.Reader.{Found, whole, broken}
-use Rattle·reading·specs.specs.declared.Stop.{Stop}
-use Rattle·reading·specs.specs.declared.Reading.{Reading}
-use Rattle·reading·specs.specs.declared.Reading.the-variants.{Whole, Broken}
+use Rattle.std.specs.Prelude.{ℕ, ◌+◌, ◌-◌, Bool, true, false, List, [], ◌∷◌, length}
+use Rattle.writes.specs.Sets.{Run, run, payload}
+use Rattle.reading.specs.Reader.{Found, whole, broken}
+use Rattle.reading.specs.declared.Stop.{Stop}
+use Rattle.reading.specs.declared.Reading.{Reading}
+use Rattle.reading.specs.declared.Reading.TheVariants.{Whole, Broken}
 
 abbrev pub runs_in : Found → List Run
 runs_in (whole rs e) = rs

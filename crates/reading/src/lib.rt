@@ -1,13 +1,14 @@
 // Reading a patch that other bytes may follow: what stands at an index, one step, and all steps to the trailer.
-ghost use mathlib.Core.Path.{_≡_};
-ghost use Rattle·reading·specs.specs.Reader.{head_at, admits, step_at, Stands, read_at};
-ghost use Rattle·reading·specs.specs.Stops.{stop_of, reading};
+ghost use Rattle.std.specs.Prelude.{◌≡◌};
+ghost use Rattle.reading.specs.Reader.{head_at, admits, step_at, Stands, read_at};
+ghost use Rattle.reading.specs.Stops.{stop_of, reading};
 
 pub const MAX_RUNS: usize = 512;
 
 pub const MAX_BYTES: usize = 1024;
 
 // What stands at an index, by its mark: a run whose bytes are all there, a trailer with its number of runs, or neither.
+#[derive(Drop)]
 pub enum Head {
     Start { start: u64, len: usize },
     Trailer { count: usize },
@@ -15,6 +16,7 @@ pub enum Head {
 }
 
 // Where the reader stands, with the runs and payload bytes behind it and the last address that they write.
+#[derive(Drop)]
 pub struct Cursor {
     pub at: usize,
     pub runs: usize,
@@ -23,6 +25,7 @@ pub struct Cursor {
 }
 
 // What one step finds: a run with its bytes at `from`, the trailer, or what can't be accepted.
+#[derive(Drop)]
 pub enum Step {
     Next {
         start: u64,
@@ -38,6 +41,7 @@ pub enum Step {
 
 // Where all steps end, with the runs and payload bytes behind it and the last address that they write, and whether a trailer stands
 // there. Numbers that are answered together don't stand side by side: one wide load of both would wait for their two stores.
+#[derive(Drop)]
 pub struct Stop {
     pub ended: bool,
     pub runs: usize,
@@ -47,6 +51,7 @@ pub struct Stop {
 }
 
 // What all steps find: a patch with its trailer at `at`, or where what follows the runs can't be accepted.
+#[derive(Drop)]
 pub enum Reading {
     Whole {
         at: usize,
@@ -61,7 +66,7 @@ pub enum Reading {
 }
 
 fn head_at(s: &[u8], at: usize) -> Head
-    ensures { λ r. ⌜ r ≡ head_at (now (s .entry)) at ⌝ }
+    ensures { result ≡ head_at s.now at }
 {
     if s.len() < at {
         return Head::Neither;
@@ -96,7 +101,7 @@ fn head_at(s: &[u8], at: usize) -> Head
 
 // Whether a run may come next: not empty, within the sizes, not past 2^64, and a gap after the one before.
 fn admitted(c: Cursor, start: u64, len: usize) -> bool
-    ensures { λ r. ⌜ r ≡ admits c start len ⌝ }
+    ensures { result ≡ admits c start len }
 {
     let runs = c.runs;
     let bytes = c.bytes;
@@ -130,7 +135,7 @@ fn admitted(c: Cursor, start: u64, len: usize) -> bool
 
 // One step of reading.
 pub fn step_at(s: &[u8], c: Cursor) -> Step
-    ensures { λ r. ⌜ r ≡ step_at (now (s .entry)) c ⌝ }
+    ensures { result ≡ step_at s.now c }
 {
     let at = c.at;
     let runs = c.runs;
@@ -167,8 +172,8 @@ pub fn step_at(s: &[u8], c: Cursor) -> Step
 
 // The same step where it isn't bad, as of a string that was judged: the mark alone is looked at.
 pub fn step_on(s: &[u8], c: Cursor) -> Step
-    requires { ⌜ Stands (now s) c ⌝ }
-    ensures { λ r. ⌜ r ≡ step_at (now (s .entry)) c ⌝ }
+    requires { Stands s.now c }
+    ensures { result ≡ step_at s.now c }
 {
     let at = c.at;
     let runs = c.runs;
@@ -194,7 +199,7 @@ pub fn step_on(s: &[u8], c: Cursor) -> Step
 
 // All steps from index `at` on.
 pub fn walk(s: &[u8], at: usize) -> Stop
-    ensures { λ r. ⌜ r ≡ stop_of (read_at (now (s .entry)) at) ⌝ }
+    ensures { result ≡ stop_of (read_at s.now at) }
 {
     let mut c = Cursor {
         at,
@@ -237,7 +242,7 @@ pub fn walk(s: &[u8], at: usize) -> Stop
 
 // The patch that starts at index `at`.
 pub fn read(s: &[u8], at: usize) -> Reading
-    ensures { λ r. ⌜ r ≡ reading (read_at (now (s .entry)) at) ⌝ }
+    ensures { result ≡ reading (read_at s.now at) }
 {
     let w = walk(s, at);
     if w.ended {

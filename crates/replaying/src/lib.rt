@@ -1,17 +1,15 @@
 // Two functions make the calls that demand 3 speaks of, and promise its sentences: they follow from the contracts of `store` and `apply`
 // alone.
-ghost use mathlib.Core.Path.{_≡_};
-ghost use mathlib.Core.Bool.{true};
-ghost use mathlib.Core.Logic.{_↔_};
-ghost use Rattle·elements.specs.Machine.{machine};
-ghost use Rattle·replaying·specs.specs.Calls.{length_of, AppliedIf, Replayed, Compared};
+ghost use Rattle.std.specs.Prelude.{◌≡◌, true, ◌↔◌};
+ghost use Rattle.elements.specs.Machine.{machine};
+ghost use Rattle.replaying.specs.Calls.{length_of, AppliedIf, Replayed, Compared};
+
 use patch::Applied;
-use verdicts::Flags;
-use verdicts::Verdict;
+use verdicts::{Flags, Verdict};
 
 // Whether two byte strings are the same.
 fn equal(a: &[u8], b: &[u8]) -> bool
-    ensures { λ r. ⌜ (r ≡ true) ↔ (now (a .entry) ≡ now (b .entry)) ⌝ }
+    ensures { (result ≡ true) ↔ (a.now ≡ b.now) }
 {
     let n = a.len();
     if n != b.len() {
@@ -29,7 +27,7 @@ fn equal(a: &[u8], b: &[u8]) -> bool
 
 // Applies a patch, and answers whether that was done.
 fn is_applied(base: u64, memory: &mut [u8], patch: &[u8]) -> bool
-    ensures { λ r. ⌜ AppliedIf base (now (memory .entry)) (now (patch .entry)) r (now (memory .exit)) ⌝ }
+    ensures { AppliedIf base memory.old patch.now result memory.new }
 {
     match patch::apply(base, memory, patch) {
         Applied::Done { runs: _, bytes: _ } => true,
@@ -41,7 +39,7 @@ fn is_applied(base: u64, memory: &mut [u8], patch: &[u8]) -> bool
 
 // The length of a done store's patch, which has at least four bytes.
 fn length_of(verdict: Verdict) -> usize
-    ensures { λ r. ⌜ r ≡ length_of verdict ⌝ }
+    ensures { result ≡ length_of verdict }
 {
     match verdict {
         Verdict::Done {
@@ -71,9 +69,9 @@ pub fn replay(
     patch: &mut [u8],
     scratch: &mut [u8],
 ) -> bool
-    ensures { λ r. ⌜ Replayed flags (machine vb (now (x .entry)) sp (now (z .entry)) (now (p .entry))) base
-        (now (memory .entry)) (now (other .entry)) (now (target .entry)) word (now (patch .entry)) (now (scratch .entry)) r
-        (now (memory .exit)) (now (other .exit)) (now (target .exit)) (now (patch .exit)) (now (scratch .exit)) ⌝ }
+    ensures { Replayed flags (machine vb x.now sp z.now p.now) base
+        memory.old other.old target.old word patch.old scratch.old result
+        memory.new other.new target.new patch.new scratch.new }
 {
     let verdict = storing::store(vb, flags, x, sp, z, p, base, memory, word, patch);
     storing::store(vb, flags, x, sp, z, p, base, other, word, scratch);
@@ -106,11 +104,11 @@ pub fn same_patches(
     patch1: &mut [u8],
     base: u64,
 ) -> bool
-    ensures { λ r. ⌜ Compared base
-        flags (machine vb (now (x .entry)) sp (now (z .entry)) (now (p .entry))) (now (memory .entry)) word
-        flags1 (machine vb1 (now (x1 .entry)) sp1 (now (z1 .entry)) (now (p1 .entry))) (now (memory1 .entry)) word1
-        (now (patch .entry)) (now (patch1 .entry)) r
-        (now (memory .exit)) (now (memory1 .exit)) (now (patch .exit)) (now (patch1 .exit)) ⌝ }
+    ensures { Compared base
+        flags (machine vb x.now sp z.now p.now) memory.old word
+        flags1 (machine vb1 x1.now sp1 z1.now p1.now) memory1.old word1
+        patch.old patch1.old result
+        memory.new memory1.new patch.new patch1.new }
 {
     let verdict = storing::store(vb, flags, x, sp, z, p, base, memory, word, patch);
     let verdict1 = storing::store(vb1, flags1, x1, sp1, z1, p1, base, memory1, word1, patch1);

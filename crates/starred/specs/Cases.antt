@@ -1,25 +1,20 @@
 -- The starred cases of document 01, 'Cases at the edges', and examples of document 02's requests, in one table: each word is decoded and
 -- stored on a whole machine. VB is 16 where not said. Assumes nothing.
-use Prim.Native.Nat.{ℕ, _+_, _-_, _*_}
-use mathlib.Core.Bool.{Bool, true, false}
-use mathlib.Core.List.{List, [], _∷_, _++_, map}
-use mathlib.Core.Path.{_≡_}
-use lib.IntN.{ℤ, pos, negsuc}
-use lib.ListN.{length, replicate, take, drop}
-use Rattle·encoding.specs.Decoding.{decode_of}
-use Rattle·encoding.specs.declared.Decoded.{Decoded}
-use Rattle·encoding.specs.declared.Decoded.the-variants as D
-use Rattle·encoding.specs.declared.Extension.{Extension}
-use Rattle·encoding.specs.declared.Extension.the-variants.{None, Uxtw, Sxtw}
-use Rattle·encoding.specs.declared.Store.the-variants.{Scatter, Strided, Quadword}
-use Rattle·elements.specs.Machine.{Machine, machine}
-use Rattle·elements.specs.Counter.{counter_of, count_in}
-use Rattle·verdicts.specs.Verdicts.{elements_for, verdict_of}
-use Rattle·verdicts.specs.declared.Flags.{Flags}
-use Rattle·verdicts.specs.declared.Refusal.the-variants.{Length, Undefined, Illegal, Fault, Overlap}
-use Rattle·verdicts.specs.declared.Verdict.{Verdict}
-use Rattle·verdicts.specs.declared.Verdict.the-variants.{Done, Refused}
-use Rattle·outcomes.specs.Storing.{memory_after}
+use Rattle.std.specs.Prelude.{ℕ, ◌+◌, ◌-◌, ◌*◌, Bool, true, false, List, [], ◌∷◌, ◌++◌, map, ◌≡◌, ℤ, pos, negsuc, length, replicate, take, drop}
+use Rattle.encoding.specs.Decoding.{decode_of}
+use Rattle.encoding.specs.declared.Decoded.{Decoded}
+use Rattle.encoding.specs.declared.Decoded.TheVariants as D
+use Rattle.encoding.specs.declared.Extension.{Extension}
+use Rattle.encoding.specs.declared.Extension.TheVariants.{None, Uxtw, Sxtw}
+use Rattle.encoding.specs.declared.Store.TheVariants.{Scatter, Strided, Quadword}
+use Rattle.elements.specs.Machine.{Machine, machine}
+use Rattle.elements.specs.Counter.{counter_of, count_in}
+use Rattle.verdicts.specs.Verdicts.{elements_for, verdict_of}
+use Rattle.verdicts.specs.declared.Flags.{Flags}
+use Rattle.verdicts.specs.declared.Refusal.TheVariants.{Length, Undefined, Illegal, Fault, Overlap}
+use Rattle.verdicts.specs.declared.Verdict.{Verdict}
+use Rattle.verdicts.specs.declared.Verdict.TheVariants.{Done, Refused}
+use Rattle.outcomes.specs.Storing.{memory_after}
 
 -- ---- the machines
 
@@ -70,8 +65,8 @@ plain =
       sve2p1 = false;
       streaming = false;
       fa64 = false;
-      «sp_check» = false;
-      «sp_check_none_active» = false;
+      sp_check = false;
+      sp_check_none_active = false;
       strict = false;
       early = false;
     }
@@ -85,8 +80,8 @@ strict =
       sve2p1 = false;
       streaming = false;
       fa64 = false;
-      «sp_check» = false;
-      «sp_check_none_active» = false;
+      sp_check = false;
+      sp_check_none_active = false;
       strict = true;
       early = false;
     }
@@ -99,8 +94,8 @@ streaming =
       sve2p1 = false;
       streaming = true;
       fa64 = false;
-      «sp_check» = false;
-      «sp_check_none_active» = false;
+      sp_check = false;
+      sp_check_none_active = false;
       strict = false;
       early = false;
     }
@@ -114,8 +109,8 @@ quadwords e s =
       sve2p1 = true;
       streaming = s;
       fa64 = true;
-      «sp_check» = false;
-      «sp_check_none_active» = false;
+      sp_check = false;
+      sp_check_none_active = false;
       strict = false;
       early = e;
     }
@@ -239,19 +234,19 @@ pub record Outcome : Type 0 where
   pub count : ℕ
 
 abbrev pub verdict_in : Case → Verdict
-verdict_in c = verdict_of (c .flags) (c .state) (c .base) (c .long) (c .word) 1040
+verdict_in c = verdict_of c.flags c.state c.base c.long c.word 1040
 
 abbrev pub outcome : Case → Outcome
 outcome c =
     record {
-      decoded = decode_of (c .word);
+      decoded = decode_of c.word;
       verdict = verdict_in c;
-      memory = memory_after (verdict_in c) (c .base) (replicate (c .long) 0) (elements_for (c .state) (decode_of (c .word)));
-      count = count_in (c .state .vb) (counter_of (c .state) 0);
+      memory = memory_after (verdict_in c) c.base (replicate c.long 0) (elements_for c.state (decode_of c.word));
+      count = count_in c.state.vb (counter_of c.state 0);
     }
 
 abbrev pub expected : Case → Outcome
-expected c = record { decoded = c .decoded; verdict = c .verdict; memory = c .memory; count = c .count }
+expected c = record { decoded = c.decoded; verdict = c.verdict; memory = c.memory; count = c.count }
 
 -- every case of the table comes out as the papers say
 abbrev pub StarredCases : Type 0

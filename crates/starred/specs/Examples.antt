@@ -1,18 +1,14 @@
 -- Document 01's whole example: two stores of this model, done over one window, through demand 3. Its proof is `whole-example` in
 -- proofs/Examples.antt. Assumes nothing.
-use Prim.Native.Nat.{ℕ, _≤_}
-use mathlib.Core.Bool.{true, false}
-use mathlib.Core.List.{List, [], _∷_, _++_}
-use mathlib.Core.Path.{_≡_}
-use lib.ListN.{length, replicate}
-use Rattle·writes.specs.Examples.{example_patch}
-use Rattle·elements.specs.Machine.{Machine, machine}
-use Rattle·verdicts.specs.Verdicts.{verdict_of}
-use Rattle·verdicts.specs.declared.Flags.{Flags}
-use Rattle·verdicts.specs.declared.Refusal.the-variants.{Length}
-use Rattle·verdicts.specs.declared.Verdict.the-variants.{Done, Refused}
-use Rattle·demands.specs.Demand3.{DoneOver, Filling, patch_for, HandsOut, LeaveTheSame}
-use Rattle·starred·specs.specs.Cases.{plain, streaming}
+use Rattle.std.specs.Prelude.{ℕ, ◌≤◌, true, false, List, [], ◌∷◌, ◌++◌, ◌≡◌, length, replicate}
+use Rattle.writes.specs.Examples.{example_patch}
+use Rattle.elements.specs.Machine.{Machine, machine}
+use Rattle.verdicts.specs.Verdicts.{verdict_of}
+use Rattle.verdicts.specs.declared.Flags.{Flags}
+use Rattle.verdicts.specs.declared.Refusal.TheVariants.{Length}
+use Rattle.verdicts.specs.declared.Verdict.TheVariants.{Done, Refused}
+use Rattle.demands.specs.Demand3.{DoneOver, Filling, patch_for, HandsOut, LeaveTheSame}
+use Rattle.starred.specs.Cases.{plain, streaming}
 
 -- four 32-bit elements by their low bytes, with the same byte in their other bytes
 abbrev pub words : ℕ → ℕ → ℕ → ℕ → ℕ → List ℕ
@@ -70,8 +66,8 @@ older =
       sve2p1 = false;
       streaming = false;
       fa64 = false;
-      «sp_check» = false;
-      «sp_check_none_active» = false;
+      sp_check = false;
+      sp_check_none_active = false;
       strict = false;
       early = true;
     }

@@ -1,7 +1,5 @@
 -- What each function of the interface answers. Assumes nothing.
-use Prim.Native.Nat.{ℕ}
-use mathlib.Core.List.{List}
-use mathlib.Core.Path.{_≡_}
+use Rattle.std.specs.Prelude.{ℕ, List, ◌≡◌}
 
 -- there is an answer of which P holds, and n and ns are its number and its numbers
 pub record Answers {A : Type 0} (P : A → Type 0) (number_of : A → ℕ) (numbers_of : A → List ℕ) (n : ℕ) (ns : List ℕ) : Type 0 where

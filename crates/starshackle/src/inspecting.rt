@@ -1,11 +1,12 @@
 // One element of a store as a number and five answers: active, address, the index of its first byte in the Z buffer, its bytes'
 // number, and how many elements the store has.
-ghost use mathlib.Core.Path.{_≡_};
-ghost use Rattle·inspection.specs.Inspection.{inspected_number, bit_of, inspected_answers};
+ghost use Rattle.std.specs.Prelude.{◌≡◌};
+ghost use Rattle.inspection.specs.Inspection.{inspected_number, bit_of, inspected_answers};
+
 use inspection::Inspected;
 
 pub fn number_of(r: Inspected) -> u64
-    ensures { λ n. ⌜ n ≡ inspected_number r ⌝ }
+    ensures { result ≡ inspected_number r }
 {
     match r {
         Inspected::Length => 1,
@@ -17,13 +18,13 @@ pub fn number_of(r: Inspected) -> u64
 }
 
 fn bit_of(active: bool) -> u64
-    ensures { λ r. ⌜ r ≡ bit_of active ⌝ }
+    ensures { result ≡ bit_of active }
 {
     if active { 1 } else { 0 }
 }
 
 pub fn answers_of(r: Inspected) -> [u64; 5]
-    ensures { λ a. ⌜ a ≡ inspected_answers r ⌝ }
+    ensures { result ≡ inspected_answers r }
 {
     match r {
         Inspected::Length => [0; 5],

@@ -1,9 +1,9 @@
 // The merged call: checks 1 to 7, 12 and 8 in that order, then memory and patch buffer are written together.
-ghost use Rattle·elements.specs.Machine.{machine};
-ghost use Rattle·outcomes.specs.Storing.{Stored};
+ghost use Rattle.elements.specs.Machine.{machine};
+ghost use Rattle.outcomes.specs.Storing.{Stored};
+
 use checks::Checked;
-use verdicts::Flags;
-use verdicts::Verdict;
+use verdicts::{Flags, Verdict};
 
 // Runs the store that a word is on the lent machine and window, and makes its patch at the front of `patch`.
 pub fn store(
@@ -18,9 +18,8 @@ pub fn store(
     word: u32,
     patch: &mut [u8],
 ) -> Verdict
-    ensures { λ r.
-        ⌜ Stored flags (machine vb (now (x .entry)) sp (now (z .entry)) (now (p .entry))) base (now (memory .entry)) word
-        (now (patch .entry)) r (now (memory .exit)) (now (patch .exit)) ⌝ }
+    ensures { Stored flags (machine vb x.now sp z.now p.now) base memory.old word
+        patch.old result memory.new patch.new }
 {
     match checks::check(vb, flags, x, sp, z, p, base, memory.len() as u64, word) {
         Checked::Refused { refusal } => Verdict::Refused { refusal },

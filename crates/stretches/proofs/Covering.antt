@@ -1,17 +1,17 @@
 -- Which addresses intervals cover. Assumes nothing.
-use mathlib.Core.Path.{_≡_, refl, sym, ap, _∙_}
-use Prim.Native.Nat.{ℕ, _+_, _-_, _≤_, _<_}
-use mathlib.Core.List.{List, [], _∷_}
+use mathlib.Core.Path.{◌≡◌, refl, sym, ap, ◌∙◌}
+use Prim.Native.Nat.{ℕ, ◌+◌, ◌-◌, ◌≤◌, ◌<◌}
+use mathlib.Core.List.{List, [], ◌∷◌}
 use mathlib.Core.Bool.{Bool, true, false, cond}
 use mathlib.Core.Option.{Option, none, some, or_else}
 use native.Mathlib.Omega.{arith}
 use lib.ListN.{length}
 use lib.Dec.{ltb}
 use borrow.Author.Tests.{lt-ltb, le-ltb}
-use Rattle·writes.specs.Sets.{lookup, writes_at}
-use Rattle·endian.proofs.Order.{two}
-use Rattle·writes.proofs.Lookup.{lookup-writes_at-below, lookup-writes_at-past, lookup-writes_at-at}
-use Rattle·stretches·specs.specs.Intervals.{Interval, interval}
+use Rattle.writes.specs.Sets.{lookup, writes_at}
+use Rattle.endian.proofs.Order.{two}
+use Rattle.writes.proofs.Lookup.{lookup-writes_at-below, lookup-writes_at-past, lookup-writes_at-at}
+use Rattle.stretches.specs.Intervals.{Interval, interval}
 
 -- x is one of the n addresses from s on
 unfoldable pub among : ℕ → ℕ → ℕ → Bool
@@ -38,15 +38,15 @@ pub among-high : (s n x : ℕ) → s + n ≤ x → among s n x ≡ false
 unfolding among
 among-high s n x h = simp (le-ltb x s (omega arith), le-ltb x (s + n) h)
 
-pub or-swap : (a b t : Bool) → or a (or b t) ≡ or b (or a t)
-or-swap true true t = refl
-or-swap true false t = refl
-or-swap false true t = refl
-or-swap false false t = refl
+pub or_swap : (a b t : Bool) → or a (or b t) ≡ or b (or a t)
+or_swap true true t = refl
+or_swap true false t = refl
+or_swap false true t = refl
+or_swap false false t = refl
 
-pub or-assoc : (a b t : Bool) → or (or a b) t ≡ or a (or b t)
-or-assoc true b t = refl
-or-assoc false b t = refl
+pub or_assoc : (a b t : Bool) → or (or a b) t ≡ or a (or b t)
+or_assoc true b t = refl
+or_assoc false b t = refl
 
 -- two that meet or touch together are one
 pub hull : (W x s e a n : ℕ) → s < e → s ≤ a + n → a ≤ e
@@ -90,7 +90,7 @@ some-writes_at x s p =
     ∙ sym (among-yes s (length p) x h k))
     (λ k. ap is_some (lookup-writes_at-past x s p k) ∙ sym (among-high s (length p) x k)))
 
-pub some-or : (o o′ : Option ℕ) → is_some (or_else o o′) ≡ or (is_some o) (is_some o′)
+pub some_or : (o o' : Option ℕ) → is_some (or_else o o') ≡ or (is_some o) (is_some o')
 unfolding or_else
-some-or none o′ = refl
-some-or (some b) o′ = refl
+some_or none o' = refl
+some_or (some b) o' = refl

@@ -1,14 +1,14 @@
 -- Stretches that make one run. Assumes nothing.
-use mathlib.Core.Path.{_≡_, sym, ap, ap₂, _∙_}
-use Prim.Native.Nat.{ℕ, _+_, _-_, _/_, _≤_, _<_}
-use mathlib.Core.List.{List, [], _∷_}
+use mathlib.Core.Path.{◌≡◌, sym, ap, ap₂, ◌∙◌}
+use Prim.Native.Nat.{ℕ, ◌+◌, ◌-◌, ◌/◌, ◌≤◌, ◌<◌}
+use mathlib.Core.List.{List, [], ◌∷◌}
 use native.Mathlib.Omega.{arith}
 use lib.ListN.{get_or}
 use borrow.Author.Tests.{lt-ltb, le-ltb}
-use Rattle·ordering.specs.Keys.{entries}
-use Rattle·ordering.proofs.Sorting.{entries-cons, entries-none, entries-all}
-use Rattle·stretches·specs.specs.Intervals.{interval}
-use Rattle·stretches·specs.specs.Stretches.{start_of, end_of, higher, merged_from, merged, Grew}
+use Rattle.ordering.specs.Keys.{entries}
+use Rattle.ordering.proofs.Sorting.{entries-cons, entries_none, entries-all}
+use Rattle.stretches.specs.Intervals.{interval}
+use Rattle.stretches.specs.Stretches.{start_of, end_of, higher, merged_from, merged, Grew}
 
 -- ---- the two ways of a step
 
@@ -26,7 +26,7 @@ module _ (a b k : ℕ) (K : List ℕ) where
 module _ (S : List ℕ) (m : ℕ) where
   pub merged-none : (t : ℕ) → m ≤ t → merged (entries S t (m - t)) ≡ []
   unfolding merged
-  merged-none t h = ap merged (entries-none S m t h)
+  merged-none t h = ap merged (entries_none S m t h)
 
   pub merged-all : merged (entries S 0 (m - 0)) ≡ merged (entries S 0 m)
   merged-all = ap merged (entries-all S m)
@@ -44,29 +44,29 @@ module _ (S : List ℕ) (m t : ℕ) where
   pub growing-first : t < m → (a e : ℕ) → a ≡ start_of (get_or S t 0) → (e ≡ end_of (get_or S t 0)) × (e < 65793) → Growing S m t a e (t + 1)
   unfolding merged
   growing-first h a e qa q =
-      let q0 : e ≡ end_of (get_or S t 0) = q .0 in
+      let q0 : e ≡ end_of (get_or S t 0) = q.0 in
       record {
         on = omega arith;
         most = omega arith;
         some = omega arith;
-        small = q .1;
+        small = q.1;
         same = ap merged (entries-cons S m t h) ∙ ap₂ (λ (y z : ℕ). merged_from y z (entries S (t + 1) (m - (t + 1)))) (sym qa) (sym q0);
       }
 
   module _ (a end next : ℕ) (g : Growing S m t a end next) where
-    pub growing-more : next < m → (s e end′ : ℕ) → s ≡ start_of (get_or S next 0) → (e ≡ end_of (get_or S next 0)) × (e < 65793) → s ≤ end
-        → end′ ≡ end + (e - end) → Growing S m t a end′ (next + 1)
-    growing-more l s e end′ qs qe c w =
+    pub growing-more : next < m → (s e end' : ℕ) → s ≡ start_of (get_or S next 0) → (e ≡ end_of (get_or S next 0)) × (e < 65793) → s ≤ end
+        → end' ≡ end + (e - end) → Growing S m t a end' (next + 1)
+    growing-more l s e end' qs qe c w =
         let k : ℕ = get_or S next 0 in
-        let e0 : e ≡ end_of k = qe .0 in
-        let u : end′ ≡ higher end (end_of k) = w ∙ ap (λ (z : ℕ). end + (z - end)) e0 in
+        let e0 : e ≡ end_of k = qe.0 in
+        let u : end' ≡ higher end (end_of k) = w ∙ ap (λ (z : ℕ). end + (z - end)) e0 in
         record {
-          on = omega (arith, g .on);
+          on = omega (arith, g.on);
           most = omega arith;
-          some = omega (arith, g .some);
-          small = omega (arith, g .small, qe .1);
+          some = omega (arith, g.some);
+          small = omega (arith, g.small, qe.1);
           same =
-              g .same ∙ ap (merged_from a end) (entries-cons S m next l)
+              g.same ∙ ap (merged_from a end) (entries-cons S m next l)
               ∙ merged-join a end k (entries S (next + 1) (m - (next + 1))) (omega arith)
               ∙ ap (λ (z : ℕ). merged_from a z (entries S (next + 1) (m - (next + 1)))) (sym u);
         }
@@ -74,7 +74,7 @@ module _ (S : List ℕ) (m t : ℕ) where
     -- what is left stays as it is
     ended : merged_from a end (entries S next (m - next)) ≡ interval a (end - a) ∷ merged (entries S next (m - next))
         → Grew S m t a end next
-    ended e = record { on = g .on; most = g .most; some = g .some; small = g .small; same = g .same ∙ e }
+    ended e = record { on = g.on; most = g.most; some = g.some; small = g.small; same = g.same ∙ e }
 
     pub growing-apart : next < m → (s : ℕ) → s ≡ start_of (get_or S next 0) → end < s → Grew S m t a end next
     growing-apart l s q c =
@@ -86,5 +86,5 @@ module _ (S : List ℕ) (m t : ℕ) where
     pub growing-done : m ≤ next → Grew S m t a end next
     unfolding merged merged_from
     growing-done l =
-        let n = entries-none S m next l in
+        let n = entries_none S m next l in
         ended (ap (merged_from a end) n ∙ ap (λ (K : List ℕ). interval a (end - a) ∷ merged K) (sym n))

@@ -1,21 +1,21 @@
 -- What joined keys keep: the addresses, the bytes, the order of numbers, the window. Assumes nothing.
-use mathlib.Core.Path.{_≡_, refl, sym, ap, ap₂, _∙_, subst}
-use Prim.Native.Nat.{ℕ, suc, _+_, _-_, _*_, _≤_, _<_}
+use mathlib.Core.Path.{◌≡◌, refl, sym, ap, ap₂, ◌∙◌, subst}
+use Prim.Native.Nat.{ℕ, suc, ◌+◌, ◌-◌, ◌*◌, ◌≤◌, ◌<◌}
 use mathlib.Core.Bool.{Bool}
-use mathlib.Core.List.{List, [], _∷_}
+use mathlib.Core.List.{List, [], ◌∷◌}
 use native.Mathlib.Nat.{suc-mul}
 use native.Mathlib.Omega.{arith}
 use lib.ListN.{length}
-use Rattle·endian.proofs.Order.{two, three}
-use Rattle·ordering.specs.Keys.{number_of, filed, sorted, Each, Distinct}
-use Rattle·ordering.proofs.Sorting.{Up, filed-past, filed-here, sorted-each, up-sorted}
-use Rattle·stretches·proofs.proofs.Covering.{among, or, hull, or-assoc, or-swap}
-use Rattle·stretches·specs.specs.Stretches.{start_of, bytes_of, end_of, joined_from, joined, sum, Rising}
-use Rattle·stretches·proofs.proofs.Merging.{some}
-use Rattle·stretches·proofs.proofs.Joining.{grown-start, grown-bytes, grown-number, joined-on, joined-new}
+use Rattle.endian.proofs.Order.{two, three}
+use Rattle.ordering.specs.Keys.{number_of, filed, sorted, Each, Distinct}
+use Rattle.ordering.proofs.Sorting.{Up, filed-past, filed-here, sorted-each, up-sorted}
+use Rattle.stretches.proofs.Covering.{among, or, hull, or_assoc, or_swap}
+use Rattle.stretches.specs.Stretches.{start_of, bytes_of, end_of, joined_from, joined, sum, Rising}
+use Rattle.stretches.proofs.Merging.{some}
+use Rattle.stretches.proofs.Joining.{grown-start, grown-bytes, grown-number, joined-on, joined-new}
 
-pub same-or : {X : Type 0} (a b : ℕ) → (a ≡ b → X) → ((a ≡ b → ⊥) → X) → X
-same-or a b f g = three a b (λ l. g (λ e. omega arith)) f (λ l. g (λ e. omega arith))
+pub same_or : {X : Type 0} (a b : ℕ) → (a ≡ b → X) → ((a ≡ b → ⊥) → X) → X
+same_or a b f g = three a b (λ l. g (λ e. omega arith)) f (λ l. g (λ e. omega arith))
 
 -- ---- stretch s ends with the key `last`, and has room for the keys to come
 
@@ -33,19 +33,19 @@ module _ (size k : ℕ) (K : List ℕ) where
 
   module _ (s last : ℕ) (o : Open size s last (k ∷ K)) where
     pub small : bytes_of s + size ≤ 256
-    small = omega (arith, o .fit, m)
+    small = omega (arith, o.fit, m)
 
     pub open-on : start_of last + size ≡ start_of k → Open size (s + size * 256) k K
     open-on h =
-        let e0 : bytes_of k ≡ size = o .each .0 in
+        let e0 : bytes_of k ≡ size = o.each.0 in
         record {
-          end = omega (arith, grown-start s size small, grown-bytes s size small, o .end);
-          fit = omega (arith, grown-bytes s size small, o .fit, m);
-          each = o .each .1;
+          end = omega (arith, grown-start s size small, grown-bytes s size small, o.end);
+          fit = omega (arith, grown-bytes s size small, o.fit, m);
+          each = o.each.1;
         }
 
     pub open-new : Open size k k K
-    open-new = open-first (o .each .0) (o .each .1) (omega (arith, o .fit))
+    open-new = open-first o.each.0 o.each.1 (omega (arith, o.fit))
 
 -- ---- the bytes of all
 
@@ -54,8 +54,8 @@ module _ (size : ℕ) where
   unfolding joined_from sum
   sum-from s last [] o = omega arith
   sum-from s last (k ∷ K) o =
-      let e0 : bytes_of k ≡ size = o .each .0 in
-      same-or (start_of last + size) (start_of k)
+      let e0 : bytes_of k ≡ size = o.each.0 in
+      same_or (start_of last + size) (start_of k)
       (λ h.
       omega (
         arith,
@@ -70,8 +70,8 @@ module _ (size : ℕ) where
   unfolding joined sum
   sum-joined [] e h = omega arith
   sum-joined (k ∷ K) e h =
-      let e0 : bytes_of k ≡ size = e .0 in
-      omega (arith, sum-from k k K (open-first size k K (e .0) (e .1) h), m size k K)
+      let e0 : bytes_of k ≡ size = e.0 in
+      omega (arith, sum-from k k K (open-first size k K e.0 e.1 h), m size k K)
 
 -- ---- the window
 
@@ -81,20 +81,20 @@ module _ (size L : ℕ) where
   unfolding joined_from
   inside-from s last [] o h e = (h, tt)
   inside-from s last (k ∷ K) o h e =
-      let e0 : bytes_of k ≡ size = o .each .0 in
-      let i : end_of k ≤ L = e .0 in
-      same-or (start_of last + size) (start_of k)
+      let e0 : bytes_of k ≡ size = o.each.0 in
+      let i : end_of k ≤ L = e.0 in
+      same_or (start_of last + size) (start_of k)
       (λ q.
       subst (Each (λ k. end_of k ≤ L)) (sym (joined-on size s last k K q))
-      (inside-from (s + size * 256) k K (open-on size k K s last o q) (omega (arith, open-on size k K s last o q .end)) (e .1)))
+      (inside-from (s + size * 256) k K (open-on size k K s last o q) (omega (arith, (open-on size k K s last o q).end)) e.1))
       (λ q. subst (Each (λ k. end_of k ≤ L)) (sym (joined-new size s last k K q))
-      (h, inside-from k k K (open-new size k K s last o) i (e .1)))
+      (h, inside-from k k K (open-new size k K s last o) i e.1))
 
   pub inside-joined : (K : List ℕ) → Each (λ k. bytes_of k ≡ size) K → length K * size ≤ 256 → Each (λ k. end_of k ≤ L) K
       → Each (λ k. end_of k ≤ L) (joined size K)
   unfolding joined
   inside-joined [] e h i = tt
-  inside-joined (k ∷ K) e h i = inside-from k k K (open-first size k K (e .0) (e .1) h) (i .0) (i .1)
+  inside-joined (k ∷ K) e h i = inside-from k k K (open-first size k K e.0 e.1 h) i.0 i.1
 
 -- ---- numbers ascend, so that stretches are distinct
 
@@ -109,28 +109,28 @@ module _ (size : ℕ) where
   unfolding joined_from
   numbers-from f s last [] o h l n = (h, tt)
   numbers-from f s last (k ∷ K) o h l n =
-      let n0 : suc (number_of last) ≤ number_of k = n .0 in
-      same-or (start_of last + size) (start_of k)
+      let n0 : suc (number_of last) ≤ number_of k = n.0 in
+      same_or (start_of last + size) (start_of k)
       (λ q.
       let g = grown-number s size (small size k K s last o) in
       subst (Numbers f) (sym (joined-on size s last k K q))
-      (numbers-from f (s + size * 256) k K (open-on size k K s last o q) (omega arith) (omega arith) (n .1)))
+      (numbers-from f (s + size * 256) k K (open-on size k K s last o q) (omega arith) (omega arith) n.1))
       (λ q.
       subst (Numbers f) (sym (joined-new size s last k K q))
-      (h, numbers-from (suc (number_of s)) k k K (open-new size k K s last o) (omega arith) (omega arith) (n .1)))
+      (h, numbers-from (suc (number_of s)) k k K (open-new size k K s last o) (omega arith) (omega arith) n.1))
 
   pub numbers-joined : (K : List ℕ) → Each (λ k. bytes_of k ≡ size) K → length K * size ≤ 256 → Numbers 0 K → Numbers 0 (joined size K)
   unfolding joined
   numbers-joined [] e h n = tt
-  numbers-joined (k ∷ K) e h n = numbers-from 0 k k K (open-first size k K (e .0) (e .1) h) (omega arith) (omega arith) (n .1)
+  numbers-joined (k ∷ K) e h n = numbers-from 0 k k K (open-first size k K e.0 e.1 h) (omega arith) (omega arith) n.1
 
 others : (f k : ℕ) (K : List ℕ) → number_of k < f → Numbers f K → Each (λ x. number_of k ≡ number_of x → ⊥) K
 others f k [] h n = tt
-others f k (x ∷ K) h n = let n0 : f ≤ number_of x = n .0 in (λ e. omega arith, others (suc (number_of x)) k K (omega arith) (n .1))
+others f k (x ∷ K) h n = let n0 : f ≤ number_of x = n.0 in (λ e. omega arith, others (suc (number_of x)) k K (omega arith) n.1)
 
 pub distinct-numbers : (f : ℕ) (K : List ℕ) → Numbers f K → Distinct K
 distinct-numbers f [] n = tt
-distinct-numbers f (k ∷ K) n = (others (suc (number_of k)) k K (omega arith) (n .1), distinct-numbers (suc (number_of k)) K (n .1))
+distinct-numbers f (k ∷ K) n = (others (suc (number_of k)) k K (omega arith) n.1, distinct-numbers (suc (number_of k)) K n.1)
 
 -- ---- the addresses
 
@@ -149,18 +149,18 @@ module _ (W size x : ℕ) where
   unfolding joined_from some
   some-from s last [] o = refl
   some-from s last (k ∷ K) o =
-      let e0 : bytes_of k ≡ size = o .each .0 in
+      let e0 : bytes_of k ≡ size = o.each.0 in
       let b : ℕ = bytes_of s in
-      same-or (start_of last + size) (start_of k)
+      same_or (start_of last + size) (start_of k)
       (λ h.
-      let s′ : ℕ = s + size * 256 in
-      let t : start_of s + b ≡ start_of k = omega (arith, o .end) in
+      let s' : ℕ = s + size * 256 in
+      let t : start_of s + b ≡ start_of k = omega (arith, o.end) in
       ap (some W x) (joined-on size s last k K h)
-      ∙ some-from s′ k K (open-on size k K s last o h)
+      ∙ some-from s' k K (open-on size k K s last o h)
       ∙ ap₂ (λ (y z : ℕ). or (among (W + y) z x) (some W x K)) (grown-start s size (small size k K s last o))
       (grown-bytes s size (small size k K s last o))
       ∙ ap (λ (t : Bool). or t (some W x K)) (append-among W x (start_of s) b size (omega arith))
-      ∙ or-assoc (among (W + start_of s) b x) (among (W + (start_of s + b)) size x) (some W x K)
+      ∙ or_assoc (among (W + start_of s) b x) (among (W + (start_of s + b)) size x) (some W x K)
       ∙ ap₂ (λ (y z : ℕ). or (among (W + start_of s) b x) (or (among (W + y) z x) (some W x K))) t (sym e0))
       (λ h.
       ap (some W x) (joined-new size s last k K h) ∙ ap (or (among (W + start_of s) b x)) (some-from k k K (open-new size k K s last o)))
@@ -168,7 +168,7 @@ module _ (W size x : ℕ) where
   pub some-joined : (K : List ℕ) → Each (λ k. bytes_of k ≡ size) K → length K * size ≤ 256 → some W x (joined size K) ≡ some W x K
   unfolding joined some
   some-joined [] e h = refl
-  some-joined (k ∷ K) e h = some-from k k K (open-first size k K (e .0) (e .1) h)
+  some-joined (k ∷ K) e h = some-from k k K (open-first size k K e.0 e.1 h)
 
 -- ---- the order doesn't matter
 
@@ -180,7 +180,7 @@ module _ (W x : ℕ) where
       two y k
       (λ p.
       ap (some W x) (filed-past k y K p) ∙ ap (or (among (W + start_of y) (bytes_of y) x)) (some-filed k K)
-      ∙ or-swap (among (W + start_of y) (bytes_of y) x) (among (W + start_of k) (bytes_of k) x) (some W x K))
+      ∙ or_swap (among (W + start_of y) (bytes_of y) x) (among (W + start_of k) (bytes_of k) x) (some W x K))
       (λ p. ap (some W x) (filed-here k y K p))
 
   pub some-sorted : (K : List ℕ) → some W x (sorted K) ≡ some W x K
@@ -202,8 +202,8 @@ sum-sorted (k ∷ K) = sum-filed k (sorted K) ∙ ap (λ (z : ℕ). bytes_of k +
 rising-up : (L f p : ℕ) (K : List ℕ) → p ≤ start_of f → Each (λ k. end_of k ≤ L) K → Up f K → Rising L p K
 rising-up L f p [] h i u = tt
 rising-up L f p (k ∷ K) h i u =
-    let u0 : f ≤ k = u .0 in
-    (omega arith, i .0, rising-up L (suc k) (start_of k) K (omega arith) (i .1) (u .1))
+    let u0 : f ≤ k = u.0 in
+    (omega arith, i.0, rising-up L (suc k) (start_of k) K (omega arith) i.1 u.1)
 
 pub rising-sorted : (L : ℕ) (K : List ℕ) → Each (λ k. end_of k ≤ L) K → Distinct K → Rising L 0 (sorted K)
 rising-sorted L K i d = rising-up L 0 0 (sorted K) (omega arith) (sorted-each (λ k. end_of k ≤ L) K i) (up-sorted K d)

@@ -1,20 +1,20 @@
 -- Keys joined, one after another. Assumes nothing.
-use mathlib.Core.Path.{_≡_, refl, sym, ap, ap₂, _∙_, subst}
-use mathlib.Core.Bool.{Bool, true, false, cond, _&&_}
-use Prim.Native.Nat.{ℕ, zero, suc, _+_, _-_, _*_, _/_, _%_, _≤_, _<_}
-use mathlib.Core.List.{List, [], _∷_, _++_, append-assoc}
-use native.Mathlib.Nat.{suc-mul, mul-le-mul-right}
+use mathlib.Core.Path.{◌≡◌, refl, sym, ap, ap₂, ◌∙◌, subst}
+use mathlib.Core.Bool.{Bool, true, false, cond, ◌&&◌}
+use Prim.Native.Nat.{ℕ, zero, suc, ◌+◌, ◌-◌, ◌*◌, ◌/◌, ◌%◌, ◌≤◌, ◌<◌}
+use mathlib.Core.List.{List, [], ◌∷◌, ◌++◌, append_assoc}
+use native.Mathlib.Nat.{suc-mul, mul-le-mul_right}
 use native.Mathlib.Omega.{arith}
 use native.Mathlib.Numerals.{add-one}
 use lib.Dec.{eqb, ltb}
 use lib.ListN.{length, get_or, set, length-set}
-use lib.Seq.{get_or-set-same, get_or-set-other, set-get_or}
-use borrow.Author.Tests.{eq-eqb, ne-eqb, ltb-true}
-use Rattle·endian.proofs.Order.{both}
-use Rattle·ordering.specs.Keys.{number_of, entries, sorted, Each}
-use Rattle·ordering.proofs.Sorting.{entries-cons, entries-none, entries-all, entries-same, entries-snoc, length-entries, entry, Asc}
-use Rattle·ordering.proofs.Sorting.{asc-sorted}
-use Rattle·stretches·specs.specs.Stretches.{start_of, bytes_of, joined_from, joined, ascends_from, ascends, Sized}
+use lib.Seq.{get_or-set_same, get_or-set_other, set-get_or}
+use borrow.Author.Tests.{eq-eqb, ne_eqb, ltb-true}
+use Rattle.endian.proofs.Order.{both}
+use Rattle.ordering.specs.Keys.{number_of, entries, sorted, Each}
+use Rattle.ordering.proofs.Sorting.{entries-cons, entries_none, entries-all, entries-same, entries-snoc, length-entries, entry, Asc}
+use Rattle.ordering.proofs.Sorting.{asc-sorted}
+use Rattle.stretches.specs.Stretches.{start_of, bytes_of, joined_from, joined, ascends_from, ascends, Sized}
 
 -- ---- the digits of a stretch that grows
 
@@ -37,20 +37,20 @@ module _ (size s last k : ℕ) (K : List ℕ) where
 
   pub joined-new : (start_of last + size ≡ start_of k → ⊥) → joined_from size s last (k ∷ K) ≡ s ∷ joined_from size k k K
   unfolding joined_from
-  joined-new h = simp (ne-eqb (last / 65536 + size) (k / 65536) h)
+  joined-new h = simp (ne_eqb (last / 65536 + size) (k / 65536) h)
 
 -- ---- how many stretches there are
 
 -- that doesn't depend on how far the open one has grown
-pub open-length : (size s s′ last : ℕ) (K : List ℕ) → length (joined_from size s last K) ≡ length (joined_from size s′ last K)
+pub open-length : (size s s' last : ℕ) (K : List ℕ) → length (joined_from size s last K) ≡ length (joined_from size s' last K)
 unfolding joined_from
-open-length size s s′ last [] = refl
-open-length size s s′ last (k ∷ K) =
-    go (eqb (start_of last + size) (start_of k)) (open-length size (s + size * 256) (s′ + size * 256) k K)
+open-length size s s' last [] = refl
+open-length size s s' last (k ∷ K) =
+    go (eqb (start_of last + size) (start_of k)) (open-length size (s + size * 256) (s' + size * 256) k K)
   where
-    go : (b : Bool) → length (joined_from size (s + size * 256) k K) ≡ length (joined_from size (s′ + size * 256) k K)
+    go : (b : Bool) → length (joined_from size (s + size * 256) k K) ≡ length (joined_from size (s' + size * 256) k K)
         → length (cond b (joined_from size (s + size * 256) k K) (s ∷ joined_from size k k K))
-        ≡ length (cond b (joined_from size (s′ + size * 256) k K) (s′ ∷ joined_from size k k K))
+        ≡ length (cond b (joined_from size (s' + size * 256) k K) (s' ∷ joined_from size k k K))
     go true e = e
     go false e = refl
 
@@ -84,13 +84,13 @@ open-one size s last (k ∷ K) e = go (eqb (start_of last + size) (start_of k)) 
 
 -- ---- keys by index
 
-each-at : (P : ℕ → Type 0) (K : List ℕ) (t : ℕ) → Each P K → t < length K → P (get_or K t 0)
-each-at P [] t e h = absurd (omega arith)
-each-at P (k ∷ K) zero e h = e .0
-each-at P (k ∷ K) (suc t) e h = each-at P K t (e .1) (omega arith)
+each_at : (P : ℕ → Type 0) (K : List ℕ) (t : ℕ) → Each P K → t < length K → P (get_or K t 0)
+each_at P [] t e h = absurd (omega arith)
+each_at P (k ∷ K) zero e h = e.0
+each_at P (k ∷ K) (suc t) e h = each_at P K t e.1 (omega arith)
 
 each-entry : (P : ℕ → Type 0) (A : List ℕ) (m t : ℕ) → Each P (entries A 0 m) → t < m → P (get_or A t 0)
-each-entry P A m t e h = subst P (entry A m t h) (each-at P (entries A 0 m) t e (omega (arith, length-entries A 0 m)))
+each-entry P A m t e h = subst P (entry A m t h) (each_at P (entries A 0 m) t e (omega (arith, length-entries A 0 m)))
 
 -- ---- of m stretches so far the last is s; the keys from t on are left
 
@@ -114,7 +114,7 @@ closed B s m h l e =
 
 module _ (A : List ℕ) (n size N : ℕ) (z : Sized A n size) where
   pub size-at : (t : ℕ) → t < n → bytes_of (get_or A t 0) ≡ size
-  size-at t h = each-entry (λ k. bytes_of k ≡ size) A n t (z .each) h
+  size-at t h = each-entry (λ k. bytes_of k ≡ size) A n t z.each h
 
   pub joining-first : (B : List ℕ) → length (set B 0 (get_or A 0 0)) ≡ N → n ≤ length B → 0 < n → start_of (get_or A 0 0) < 65536
       → Joining A n size N (set B 0 (get_or A 0 0)) (get_or A 0 0) (get_or A 0 0) 1 1
@@ -131,77 +131,77 @@ module _ (A : List ℕ) (n size N : ℕ) (z : Sized A n size) where
         long = l;
         low = f;
         bytes = omega (arith, size-at 0 h);
-        here = get_or-set-same B 0 (get_or A 0 0) 0 (omega arith);
+        here = get_or-set_same B 0 (get_or A 0 0) 0 (omega arith);
         same = ap (joined size) (sym g);
       }
 
   module _ (B : List ℕ) (s last m t : ℕ) (j : Joining A n size N B s last m t) where
     pub joining-room : m ≤ length B
-    joining-room = omega (arith, j .few, j .most, j .long, j .room)
+    joining-room = omega (arith, j.few, j.most, j.long, j.room)
 
     module _ (h : t < n) where
       pub joining-small : bytes_of s + size ≤ 256
-      joining-small = omega (arith, j .bytes, z .few, suc-mul t size, mul-le-mul-right size (let w : suc t ≤ n = omega arith in w))
+      joining-small = omega (arith, j.bytes, z.few, suc-mul t size, mul-le-mul_right size (let w : suc t ≤ n = omega arith in w))
 
-      pub joining-on : (a b s′ : ℕ) → a ≡ start_of last → b ≡ start_of (get_or A t 0) → a + size ≡ b → s′ ≡ s + size * 256
-          → Joining A n size N (set B (m - 1) s′) s′ (get_or A t 0) m (t + 1)
-      joining-on a b s′ ea eb g e =
+      pub joining-on : (a b s' : ℕ) → a ≡ start_of last → b ≡ start_of (get_or A t 0) → a + size ≡ b → s' ≡ s + size * 256
+          → Joining A n size N (set B (m - 1) s') s' (get_or A t 0) m (t + 1)
+      joining-on a b s' ea eb g e =
           let k : ℕ = get_or A t 0 in
           let K : List ℕ = entries A (t + 1) (n - (t + 1)) in
           record {
             most = omega arith;
-            some = j .some;
-            few = omega (arith, j .few);
-            room = j .room;
-            long = length-set B (m - 1) s′ ∙ j .long;
-            low = omega (arith, ap (λ (y : ℕ). y / 65536) e, grown-start s size joining-small, j .low);
+            some = j.some;
+            few = omega (arith, j.few);
+            room = j.room;
+            long = length-set B (m - 1) s' ∙ j.long;
+            low = omega (arith, ap (λ (y : ℕ). y / 65536) e, grown-start s size joining-small, j.low);
             bytes = omega (
               arith,
-              j .bytes,
+              j.bytes,
               ap (λ (y : ℕ). y / 256 % 256) e,
               grown-bytes s size joining-small,
               suc-mul t size,
               ap (λ (y : ℕ). y * size) (add-one t),
             );
-            here = get_or-set-same B (m - 1) s′ 0 (omega (arith, j .some, joining-room));
+            here = get_or-set_same B (m - 1) s' 0 (omega (arith, j.some, joining-room));
             same = ap₂ (λ (X Y : List ℕ). X ++ Y)
-                (entries-same (set B (m - 1) s′) B (m - 1) (λ i l. get_or-set-other B (m - 1) i s′ 0 (λ q. omega arith)))
+                (entries-same (set B (m - 1) s') B (m - 1) (λ i l. get_or-set_other B (m - 1) i s' 0 (λ q. omega arith)))
                 (ap (λ (y : ℕ). joined_from size y k K) e
                 ∙ sym (ap (joined_from size s last) (entries-cons A n t h) ∙ joined-on size s last k K (omega arith)))
-                ∙ j .same;
+                ∙ j.same;
           }
 
       pub joining-new : (a b : ℕ) → a ≡ start_of last → (b ≡ start_of (get_or A t 0)) × (b < 65536) → (a + size ≡ b → ⊥)
           → Joining A n size N (set B m (get_or A t 0)) (get_or A t 0) (get_or A t 0) (m + 1) (t + 1)
       joining-new a b ea eb g =
           let k : ℕ = get_or A t 0 in
-          let e0 : b ≡ start_of k = eb .0 in
+          let e0 : b ≡ start_of k = eb.0 in
           let K : List ℕ = entries A (t + 1) (n - (t + 1)) in
           let C : List ℕ = set B m k in
           let w : (m + 1) - 1 ≡ m = omega arith in
           record {
             most = omega arith;
             some = omega arith;
-            few = omega (arith, j .few);
-            room = j .room;
-            long = length-set B m k ∙ j .long;
-            low = omega (arith, eb .1);
+            few = omega (arith, j.few);
+            room = j.room;
+            long = length-set B m k ∙ j.long;
+            low = omega (arith, eb.1);
             bytes = omega (arith, size-at t h, suc-mul t size, ap (λ (y : ℕ). y * size) (add-one t));
-            here = ap (λ (y : ℕ). get_or C y 0) w ∙ get_or-set-same B m k 0 (omega (arith, j .few, j .long, j .room));
+            here = ap (λ (y : ℕ). get_or C y 0) w ∙ get_or-set_same B m k 0 (omega (arith, j.few, j.long, j.room));
             same = ap (λ (X : List ℕ). X ++ joined_from size k k K)
-                (ap (entries C 0) w ∙ entries-same C B m (λ i l. get_or-set-other B m i k 0 (λ q. omega arith))
-                ∙ closed B s m (j .some) joining-room (j .here))
-                ∙ append-assoc (entries B 0 (m - 1)) (s ∷ []) (joined_from size k k K)
+                (ap (entries C 0) w ∙ entries-same C B m (λ i l. get_or-set_other B m i k 0 (λ q. omega arith))
+                ∙ closed B s m j.some joining-room j.here)
+                ∙ append_assoc (entries B 0 (m - 1)) (s ∷ []) (joined_from size k k K)
                 ∙ ap (λ (X : List ℕ). entries B 0 (m - 1) ++ X)
                 (sym (ap (joined_from size s last) (entries-cons A n t h) ∙ joined-new size s last k K (λ q. g (omega arith))))
-                ∙ j .same;
+                ∙ j.same;
           }
 
     pub joining-done : n ≤ t → entries B 0 m ≡ joined size (entries A 0 n)
     unfolding joined_from
     joining-done h =
-        closed B s m (j .some) joining-room (j .here)
-        ∙ ap (λ (X : List ℕ). entries B 0 (m - 1) ++ X) (sym (ap (joined_from size s last) (entries-none A n t h))) ∙ j .same
+        closed B s m j.some joining-room j.here
+        ∙ ap (λ (X : List ℕ). entries B 0 (m - 1) ++ X) (sym (ap (joined_from size s last) (entries_none A n t h))) ∙ j.same
 
 pub joined-none : (A B : List ℕ) (n size : ℕ) → n ≡ 0 → entries B 0 0 ≡ joined size (entries A 0 n)
 unfolding entries joined
@@ -216,14 +216,14 @@ and-true : (r : Bool) → r && true ≡ r
 and-true true = refl
 and-true false = refl
 
-and-assoc : (a b c : Bool) → (a && b) && c ≡ a && (b && c)
-and-assoc true b c = refl
-and-assoc false b c = refl
+and_assoc : (a b c : Bool) → (a && b) && c ≡ a && (b && c)
+and_assoc true b c = refl
+and_assoc false b c = refl
 
 module _ (A : List ℕ) (n size : ℕ) where
-  pub ascends-none : n ≡ 0 → true ≡ ascends size (entries A 0 n)
+  pub ascends_none : n ≡ 0 → true ≡ ascends size (entries A 0 n)
   unfolding ascends entries
-  ascends-none e = ap (λ (z : ℕ). ascends size (entries A 0 z)) (sym e)
+  ascends_none e = ap (λ (z : ℕ). ascends size (entries A 0 z)) (sym e)
 
   pub ascending-first : 0 < n → Ascending A n size (get_or A 0 0) (get_or A 0 0) 1 true
   unfolding ascends
@@ -242,11 +242,11 @@ module _ (A : List ℕ) (n size : ℕ) where
       left = entries A (t + 1) (n - (t + 1))
 
       told : r && ascends_from size s last (here ∷ left) ≡ ascends size (entries A 0 n)
-      told = ap (λ (X : List ℕ). r && ascends_from size s last X) (sym (entries-cons A n t h)) ∙ a .same
+      told = ap (λ (X : List ℕ). r && ascends_from size s last X) (sym (entries-cons A n t h)) ∙ a.same
 
-      pub ascending-on : (s′ : ℕ) → start_of last + size ≡ start_of here → s′ ≡ s + size * 256 → Ascending A n size s′ here (t + 1) r
+      pub ascending-on : (s' : ℕ) → start_of last + size ≡ start_of here → s' ≡ s + size * 256 → Ascending A n size s' here (t + 1) r
       unfolding ascends_from
-      ascending-on s′ g e =
+      ascending-on s' g e =
           record {
             same = ap (λ (x : ℕ). r && ascends_from size x here left) e
                 ∙ ap (λ (b : Bool). r
@@ -255,22 +255,22 @@ module _ (A : List ℕ) (n size : ℕ) where
                 ∙ told;
           }
 
-      pub ascending-new : (r′ : Bool) → (start_of last + size ≡ start_of here → ⊥) → r′ ≡ r && ltb s here
-          → Ascending A n size here here (t + 1) r′
+      pub ascending-new : (r' : Bool) → (start_of last + size ≡ start_of here → ⊥) → r' ≡ r && ltb s here
+          → Ascending A n size here here (t + 1) r'
       unfolding ascends_from
-      ascending-new r′ g e =
+      ascending-new r' g e =
           record {
-            same = ap (λ (b : Bool). b && ascends_from size here here left) e ∙ and-assoc r (ltb s here) (ascends_from size here here left)
+            same = ap (λ (b : Bool). b && ascends_from size here here left) e ∙ and_assoc r (ltb s here) (ascends_from size here here left)
                 ∙ ap (λ (b : Bool). r
                 && cond b (ascends_from size (s + size * 256) here left) (ltb s here && ascends_from size here here left))
-                (sym (ne-eqb (start_of last + size) (start_of here) g))
+                (sym (ne_eqb (start_of last + size) (start_of here) g))
                 ∙ told;
           }
 
     pub ascending-done : n ≤ t → r ≡ ascends size (entries A 0 n)
     unfolding ascends_from
     ascending-done h =
-        sym (and-true r) ∙ ap (λ (X : List ℕ). r && ascends_from size s last X) (sym (entries-none A n t h)) ∙ a .same
+        sym (and-true r) ∙ ap (λ (X : List ℕ). r && ascends_from size s last X) (sym (entries_none A n t h)) ∙ a.same
 
 -- stretches of which that is told are in order
 asc-from : (size f s last : ℕ) (K : List ℕ) → f ≤ s → ascends_from size s last K ≡ true → Asc f (joined_from size s last K)
@@ -285,7 +285,7 @@ asc-from size f s last (k ∷ K) h e =
         → cond b (ascends_from size (s + size * 256) k K) (ltb s k && ascends_from size k k K) ≡ true
         → Asc f (cond b (joined_from size (s + size * 256) k K) (s ∷ joined_from size k k K))
     go true p q e = p e
-    go false p q e = let r = both (ltb s k) (ascends_from size k k K) e in (h, q (ltb-true s k (r .0)) (r .1))
+    go false p q e = let r = both (ltb s k) (ascends_from size k k K) e in (h, q (ltb-true s k r.0) r.1)
 
 pub ascends-sorted : (size : ℕ) (K : List ℕ) → ascends size K ≡ true → sorted (joined size K) ≡ joined size K
 unfolding ascends joined sorted
@@ -326,7 +326,7 @@ module _ (A : List ℕ) (n size : ℕ) where
       K = entries A (t + 1) (n - (t + 1))
 
       all : length (joined_from size 0 last (k ∷ K)) ≡ length (joined size (entries A 0 n))
-      all = ap (λ (X : List ℕ). length (joined_from size 0 last X)) (sym (entries-cons A n t h)) ∙ m .same
+      all = ap (λ (X : List ℕ). length (joined_from size 0 last X)) (sym (entries-cons A n t h)) ∙ m.same
 
       pub meeting-on : start_of last + size ≡ start_of k → Meeting A n size k (t + 1)
       meeting-on e =
@@ -340,10 +340,10 @@ module _ (A : List ℕ) (n size : ℕ) where
       meeting-off f =
           let q : suc (length (joined_from size k k K)) ≡ length (joined size (entries A 0 n)) =
           ap length (sym (joined-new size 0 last k K f)) ∙ all in
-          sym (ne-eqb (length (joined size (entries A 0 n))) 1 (λ e. omega (arith, open-some size k k K)))
+          sym (ne_eqb (length (joined size (entries A 0 n))) 1 (λ e. omega (arith, open-some size k k K)))
 
     pub meeting-done : n ≤ t → true ≡ eqb (length (joined size (entries A 0 n))) 1
     unfolding joined_from
     meeting-done h =
         sym (eq-eqb (length (joined size (entries A 0 n))) 1
-        (sym (m .same) ∙ ap (λ (X : List ℕ). length (joined_from size 0 last X)) (entries-none A n t h)))
+        (sym m.same ∙ ap (λ (X : List ℕ). length (joined_from size 0 last X)) (entries_none A n t h)))

@@ -1,18 +1,18 @@
 -- The patch's length: a bound, and run by run. Assumes nothing.
-use mathlib.Core.Path.{_≡_, ap}
-use Prim.Native.Nat.{ℕ, _+_, _-_, _*_, _≤_}
+use mathlib.Core.Path.{◌≡◌, ap}
+use Prim.Native.Nat.{ℕ, ◌+◌, ◌-◌, ◌*◌, ◌≤◌}
 use mathlib.Core.Bool.{true}
-use mathlib.Core.List.{List, [], _∷_}
+use mathlib.Core.List.{List, [], ◌∷◌}
 use native.Mathlib.Omega.{arith}
 use lib.Dec.{leb}
 use lib.ListN.{length}
 use borrow.Author.Tests.{le-leb}
-use Rattle·endian.proofs.Order.{two}
-use Rattle·ordering.specs.Keys.{entries}
-use Rattle·ordering.proofs.Sorting.{length-entries}
-use Rattle·stretches·specs.specs.Intervals.{total}
-use Rattle·stretches·specs.specs.Stretches.{start_of, end_of, higher, merged_from, merged, sum, Grew}
-use Rattle·stretches·proofs.proofs.Growing.{merged-apart, merged-join, merged-none, merged-all}
+use Rattle.endian.proofs.Order.{two}
+use Rattle.ordering.specs.Keys.{entries}
+use Rattle.ordering.proofs.Sorting.{length-entries}
+use Rattle.stretches.specs.Intervals.{total}
+use Rattle.stretches.specs.Stretches.{start_of, end_of, higher, merged_from, merged, sum, Grew}
+use Rattle.stretches.proofs.Growing.{merged-apart, merged-join, merged-none, merged-all}
 
 -- ---- at most a head for each stretch, and the bytes of all
 
@@ -45,16 +45,16 @@ module _ (S : List ℕ) (m : ℕ) where
   pub measuring-first : Measuring S m 0 0
   measuring-first = record { most = omega arith; small = omega arith; same = omega (arith, ap total (merged-all S m)) }
 
-  pub measuring-next : (to t start end next to′ : ℕ) → Measuring S m to t → Grew S m t start end next → to′ ≡ to + 12 + (end - start)
-      → Measuring S m to′ next
+  pub measuring-next : (to t start end next to' : ℕ) → Measuring S m to t → Grew S m t start end next → to' ≡ to + 12 + (end - start)
+      → Measuring S m to' next
   unfolding total
-  measuring-next to t start end next to′ i g e =
+  measuring-next to t start end next to' i g e =
       record {
-        most = g .most;
-        small = omega (arith, i .small, g .on, g .small);
-        same = omega (arith, i .same, ap total (g .same));
+        most = g.most;
+        small = omega (arith, i.small, g.on, g.small);
+        same = omega (arith, i.same, ap total g.same);
       }
 
   pub measuring-done : (to t : ℕ) → Measuring S m to t → m ≤ t → to ≡ total (merged (entries S 0 m))
   unfolding total
-  measuring-done to t i h = omega (arith, i .same, ap total (merged-none S m t h))
+  measuring-done to t i h = omega (arith, i.same, ap total (merged-none S m t h))

@@ -1,6 +1,5 @@
 -- Sorted intervals of offsets in a window: an offset is an address less the window's. Assumes nothing.
-use Prim.Native.Nat.{ℕ, _+_, _≤_}
-use mathlib.Core.List.{List, [], _∷_}
+use Rattle.std.specs.Prelude.{ℕ, ◌+◌, ◌≤◌, List, [], ◌∷◌}
 
 -- a start and a length
 pub data Interval : Type 0 where

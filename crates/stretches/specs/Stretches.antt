@@ -1,14 +1,9 @@
 -- Elements that lie side by side are one stretch. A stretch is a number: its start, an offset in the window, times 65536, its bytes
 -- less one times 256, and the number of its first element. Assumes nothing.
-use Prim.Native.Nat.{ℕ, suc, _+_, _-_, _*_, _/_, _%_, _≤_, _<_}
-use mathlib.Core.Bool.{Bool, true, cond, _&&_}
-use mathlib.Core.List.{List, [], _∷_}
-use mathlib.Core.Path.{_≡_}
-use lib.Dec.{eqb, ltb}
-use lib.ListN.{length}
-use Rattle·writes.specs.Elements.{Element}
-use Rattle·ordering.specs.Keys.{entries, Each}
-use Rattle·stretches·specs.specs.Intervals.{Interval, interval}
+use Rattle.std.specs.Prelude.{ℕ, suc, ◌+◌, ◌-◌, ◌*◌, ◌/◌, ◌%◌, ◌≤◌, ◌<◌, Bool, true, cond, ◌&&◌, List, [], ◌∷◌, ◌≡◌, eqb, ltb, length}
+use Rattle.writes.specs.Elements.{Element}
+use Rattle.ordering.specs.Keys.{entries, Each}
+use Rattle.stretches.specs.Intervals.{Interval, interval}
 
 abbrev pub start_of : ℕ → ℕ
 start_of k = k / 65536
@@ -58,15 +53,15 @@ pub record Grew (S : List ℕ) (m t start end next : ℕ) : Type 0 where
 abbrev pub Seen : ℕ → ℕ → ℕ → ℕ → List Element → Type 0
 Seen W L size f [] = Unit {0}
 Seen W L size f (x ∷ xs) =
-    (f ≤ x .number) × (x .number < 256) × (W ≤ x .address) × (x .address + size ≤ W + L) × (length (x .bytes) ≡ size)
-    × Seen W L size (suc (x .number)) xs
+    (f ≤ x.number) × (x.number < 256) × (W ≤ x.address) × (x.address + size ≤ W + L) × (length x.bytes ≡ size)
+    × Seen W L size (suc x.number) xs
 
 abbrev pub key_of : ℕ → ℕ → ℕ → ℕ
 key_of offset size e = offset * 65536 + ((size - 1) * 256 + e)
 
 unfoldable pub keys_of : ℕ → ℕ → List Element → List ℕ
 keys_of W size [] = []
-keys_of W size (x ∷ xs) = key_of (x .address - W) size (x .number) ∷ keys_of W size xs
+keys_of W size (x ∷ xs) = key_of (x.address - W) size x.number ∷ keys_of W size xs
 
 -- stretch s, whose last key is `last`, grown by the keys that start where the one before ended, and the stretches behind it
 unfoldable pub joined_from : ℕ → ℕ → ℕ → List ℕ → List ℕ

@@ -1,28 +1,25 @@
 // Stretches of bytes in a window: elements joined where each starts where the one before ends, and the runs that stretches make.
-ghost use mathlib.Core.Path.{_≡_};
-ghost use Prim.Native.Nat.{_+_, _-_, _<_, _≤_};
-ghost use lib.Dec.{eqb, leb};
-ghost use lib.ListN.{length};
-ghost use Rattle·ordering.specs.Keys.{entries, sorted, Distinct};
-ghost use Rattle·stretches·specs.specs.Intervals.{total};
-ghost use Rattle·stretches·specs.specs.Stretches.{start_of, end_of, merged, Grew, joined, ascends, Sized, sum};
+ghost use Rattle.std.specs.Prelude.{◌≡◌, ◌+◌, ◌-◌, ◌<◌, ◌≤◌, eqb, leb, length};
+ghost use Rattle.ordering.specs.Keys.{entries, sorted, Distinct};
+ghost use Rattle.stretches.specs.Intervals.{total};
+ghost use Rattle.stretches.specs.Stretches.{start_of, end_of, merged, Grew, joined, ascends, Sized, sum};
 
 // Where a stretch starts, and where it ends, as offsets in the window.
 pub fn start_of(k: u32) -> usize
-    ensures { λ r. ⌜ (r ≡ start_of k) × (r < 65536) ⌝ }
+    ensures { (result ≡ start_of k) × (result < 65536) }
 {
     (k / 65536) as usize
 }
 
 pub fn end_of(k: u32) -> usize
-    ensures { λ r. ⌜ (r ≡ end_of k) × (r < 65793) ⌝ }
+    ensures { (result ≡ end_of k) × (result < 65793) }
 {
     start_of(k) + (k / 256 % 256) as usize + 1
 }
 
 // The higher of two numbers.
 fn higher(x: usize, y: usize) -> usize
-    ensures { λ r. ⌜ r ≡ x + (y - x) ⌝ }
+    ensures { result ≡ x + (y - x) }
 {
     if x < y {
         return y;
@@ -31,6 +28,7 @@ fn higher(x: usize, y: usize) -> usize
 }
 
 // A run of a patch: where it starts and ends, and the first stretch behind it.
+#[derive(Drop)]
 pub struct Reach {
     pub start: usize,
     pub end: usize,
@@ -39,8 +37,8 @@ pub struct Reach {
 
 // The run that starts with stretch t: from where up to where, and the first stretch behind it.
 pub fn grown(stretches: &[u32], m: usize, t: usize) -> Reach
-    requires { ⌜ (m ≤ length (now stretches)) × (t < m) ⌝ }
-    ensures { λ r. ⌜ Grew (now (stretches .entry)) m t (r .start) (r .end) (r .next) ⌝ }
+    requires { (m ≤ length stretches.now) × (t < m) }
+    ensures { Grew stretches.now m t result.start result.end result.next }
 {
     let first = stretches[t];
     let start = start_of(first);
@@ -59,8 +57,8 @@ pub fn grown(stretches: &[u32], m: usize, t: usize) -> Reach
 
 // Whether keys are one stretch: there are some, and each starts where the one before ends.
 pub fn is_one(keys: &[u32], n: usize, size: usize) -> bool
-    requires { ⌜ (n ≤ length (now keys)) × (size ≤ 256) ⌝ }
-    ensures { λ r. ⌜ r ≡ eqb (length (joined size (entries (now (keys .entry)) 0 n))) 1 ⌝ }
+    requires { (n ≤ length keys.now) × (size ≤ 256) }
+    ensures { result ≡ eqb (length (joined size (entries keys.now 0 n))) 1 }
 {
     if n == 0 {
         return false;
@@ -79,6 +77,7 @@ pub fn is_one(keys: &[u32], n: usize, size: usize) -> bool
 }
 
 // How many stretches keys make, and whether those ascend.
+#[derive(Drop)]
 struct JoinedKeys {
     count: usize,
     ascending: bool,
@@ -87,10 +86,9 @@ struct JoinedKeys {
 // Joins keys each of which starts where the one before ends: a stretch has its first element's key, with the bytes of all. The entries
 // behind the stretches are left free; nobody reads them.
 fn join(keys: &[u32], n: usize, size: usize, stretches: &mut [u32]) -> JoinedKeys
-    requires { ⌜ Sized (now keys) n size × (n ≤ length (now stretches)) ⌝ }
-    ensures { λ r.
-        ⌜ (r .count ≤ n) × (entries (now (stretches .exit)) 0 (r .count) ≡ joined size (entries (now (keys .entry)) 0 n))
-        × (r .ascending ≡ ascends size (entries (now (keys .entry)) 0 n)) ⌝ }
+    requires { Sized keys.now n size × (n ≤ length stretches.old) }
+    ensures { (result.count ≤ n) × (entries stretches.new 0 result.count ≡ joined size (entries keys.now 0 n))
+        × (result.ascending ≡ ascends size (entries keys.now 0 n)) }
 {
     if n == 0 {
         return JoinedKeys {
@@ -128,8 +126,8 @@ fn join(keys: &[u32], n: usize, size: usize, stretches: &mut [u32]) -> JoinedKey
 // Joins keys, and puts the stretches in ascending order where they don't ascend. Answers how many there are. The entries behind them are
 // left free; nobody reads them.
 pub fn join_in_order(keys: &[u32], n: usize, size: usize, stretches: &mut [u32]) -> usize
-    requires { ⌜ Sized (now keys) n size × (n ≤ length (now stretches)) × (n ≤ 64) × Distinct (joined size (entries (now keys) 0 n)) ⌝ }
-    ensures { λ r. ⌜ (r ≤ n) × (entries (now (stretches .exit)) 0 r ≡ sorted (joined size (entries (now (keys .entry)) 0 n))) ⌝ }
+    requires { Sized keys.now n size × (n ≤ length stretches.old) × (n ≤ 64) × Distinct (joined size (entries keys.now 0 n)) }
+    ensures { (result ≤ n) × (entries stretches.new 0 result ≡ sorted (joined size (entries keys.now 0 n))) }
 {
     let j = join(keys, n, size, stretches);
     let m = j.count;
@@ -142,8 +140,8 @@ pub fn join_in_order(keys: &[u32], n: usize, size: usize, stretches: &mut [u32])
 
 // The patch's length.
 fn long(stretches: &[u32], m: usize) -> usize
-    requires { ⌜ (m ≤ length (now stretches)) × (m ≤ 64) ⌝ }
-    ensures { λ r. ⌜ r ≡ total (merged (entries (now (stretches .entry)) 0 m)) + 4 ⌝ }
+    requires { (m ≤ length stretches.now) × (m ≤ 64) }
+    ensures { result ≡ total (merged (entries stretches.now 0 m)) + 4 }
 {
     let mut to = 0;
     let mut t = 0;
@@ -157,8 +155,8 @@ fn long(stretches: &[u32], m: usize) -> usize
 
 // Whether a buffer of `room` bytes has room for the patch: surely where each stretch could be a run, else by its length.
 pub fn has_room(stretches: &[u32], m: usize, bytes: usize, room: usize) -> bool
-    requires { ⌜ (m ≤ length (now stretches)) × (m ≤ 64) × (sum (entries (now stretches) 0 m) ≤ bytes) × (bytes ≤ 256) ⌝ }
-    ensures { λ r. ⌜ r ≡ leb (total (merged (entries (now (stretches .entry)) 0 m)) + 4) room ⌝ }
+    requires { (m ≤ length stretches.now) × (m ≤ 64) × (sum (entries stretches.now 0 m) ≤ bytes) × (bytes ≤ 256) }
+    ensures { result ≡ leb (total (merged (entries stretches.now 0 m)) + 4) room }
 {
     if m * 12 + bytes + 4 <= room {
         return true;

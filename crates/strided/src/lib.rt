@@ -1,22 +1,19 @@
 // Strided stores from verdict 7 on. The active elements lie side by side, or all at one larger distance: memory is tested as a whole, and
 // the patch has one run, or one for each of them.
-ghost use mathlib.Core.Path.{_≡_};
-ghost use mathlib.Core.Bool.{true};
-ghost use mathlib.Core.List.{List, []};
-ghost use mathlib.Core.Option.{none};
-ghost use Prim.Native.Nat.{ℕ, _+_, _-_, _*_, _≤_, _<_};
-ghost use lib.ListN.{length};
-ghost use Rattle·window.specs.Window.{window_ok};
-ghost use Rattle·elements.specs.Accesses.{StridedSound, strided_elements};
-ghost use Rattle·verdicts.specs.Verdicts.{first_outside};
-ghost use Rattle·outcomes.specs.Steps.{StoredOf};
-ghost use Rattle·strided·specs.specs.Searching.{SearchedAs};
-ghost use Rattle·strided·specs.specs.Runs.{run_count, run_size};
+ghost use Rattle.std.specs.Prelude.{◌≡◌, true, List, [], ℕ, ◌+◌, ◌-◌, ◌*◌, ◌≤◌, ◌<◌, length};
+ghost use Rattle.std.proofs.Math.Option.{none};
+ghost use Rattle.window.specs.Window.{window_ok};
+ghost use Rattle.elements.specs.Accesses.{StridedSound, strided_elements};
+ghost use Rattle.verdicts.specs.Verdicts.{first_outside};
+ghost use Rattle.outcomes.specs.Steps.{StoredOf};
+ghost use Rattle.strided.specs.Searching.{SearchedAs};
+ghost use Rattle.strided.specs.Runs.{run_count, run_size};
+
 use elements::StridedAccess;
-use verdicts::Refusal;
-use verdicts::Verdict;
+use verdicts::{Refusal, Verdict};
 
 // All active elements lie in the window, or the lowest that doesn't, with its first address.
+#[derive(Drop)]
 pub enum Search {
     Inside,
     Outside { element: u64, address: u64 },
@@ -24,24 +21,24 @@ pub enum Search {
 
 // The bytes from a store's first address to its first active element's.
 fn lead(s: StridedAccess) -> usize
-    requires { ⌜ s .low * s .gap ≤ 1024 ⌝ }
-    ensures { λ r. ⌜ r ≡ s .low * s .gap ⌝ }
+    requires { s.low * s.gap ≤ 1024 }
+    ensures { result ≡ s.low * s.gap }
 {
     s.low * s.gap
 }
 
 // The bytes from the first active element's first to the last one's last.
 fn span(s: StridedAccess) -> usize
-    requires { ⌜ (s .low < s .high) × ((s .high - 1 - s .low) * s .gap + s .size ≤ 1024) ⌝ }
-    ensures { λ r. ⌜ r ≡ (s .high - 1 - s .low) * s .gap + s .size ⌝ }
+    requires { (s.low < s.high) × ((s.high - 1 - s.low) * s.gap + s.size ≤ 1024) }
+    ensures { result ≡ (s.high - 1 - s.low) * s.gap + s.size }
 {
     (s.high - 1 - s.low) * s.gap + s.size
 }
 
 // The lowest active element with a byte outside the window, by a walk.
 fn walk(s: StridedAccess, vb: usize, base: u64, room: u64) -> Search
-    requires { ⌜ StridedSound s vb ⌝ }
-    ensures { λ r. ⌜ ((z : List ℕ) → length z ≡ 32 * vb → SearchedAs base room (strided_elements s vb z) r) ⌝ }
+    requires { StridedSound s vb }
+    ensures { (z : List ℕ) → length z ≡ 32 * vb → SearchedAs base room (strided_elements s vb z) result }
 {
     let high = s.high;
     let size = s.size as u64;
@@ -62,8 +59,8 @@ fn walk(s: StridedAccess, vb: usize, base: u64, room: u64) -> Search
 
 // The same, by a test of them all first.
 fn find_outside(s: StridedAccess, vb: usize, base: u64, room: u64) -> Search
-    requires { ⌜ StridedSound s vb × (window_ok base room ≡ true) ⌝ }
-    ensures { λ r. ⌜ ((z : List ℕ) → length z ≡ 32 * vb → SearchedAs base room (strided_elements s vb z) r) ⌝ }
+    requires { StridedSound s vb × (window_ok base room ≡ true) }
+    ensures { (z : List ℕ) → length z ≡ 32 * vb → SearchedAs base room (strided_elements s vb z) result }
 {
     if s.high <= s.low {
         return Search::Inside;
@@ -77,10 +74,9 @@ fn find_outside(s: StridedAccess, vb: usize, base: u64, room: u64) -> Search
 
 // A store with nothing active: an empty patch.
 fn store_none(base: u64, memory: &[u8], patch: &mut [u8]) -> Verdict
-    requires { ⌜ window_ok base (length (now memory)) ≡ true ⌝ }
-    ensures { λ r.
-        ⌜ ((size : ℕ)
-        → StoredOf base size (now (memory .entry)) (now (patch .entry)) [] r (now (memory .entry)) (now (patch .exit))) ⌝ }
+    requires { window_ok base (length memory.now) ≡ true }
+    ensures { (size : ℕ)
+        → StoredOf base size memory.now patch.old [] result memory.now patch.new }
 {
     if patch.len() < 4 {
         return Verdict::Refused {
@@ -97,14 +93,15 @@ fn store_none(base: u64, memory: &[u8], patch: &mut [u8]) -> Verdict
 }
 
 // How many runs there are, and how many bytes each has: one for all where elements lie side by side, else one for each of them.
+#[derive(Drop)]
 struct Runs {
     count: usize,
     size: usize,
 }
 
 fn runs_of(s: StridedAccess, n: usize) -> Runs
-    requires { ⌜ n * s .size ≤ 1024 ⌝ }
-    ensures { λ r. ⌜ (r .count ≡ run_count s n) × (r .size ≡ run_size s n) ⌝ }
+    requires { n * s.size ≤ 1024 }
+    ensures { (result.count ≡ run_count s n) × (result.size ≡ run_size s n) }
 {
     if s.gap == s.size {
         return Runs {
@@ -127,13 +124,12 @@ fn finish(
     memory: &mut [u8],
     patch: &mut [u8],
 ) -> Verdict
-    requires { ⌜ StridedSound s vb × (s .low < s .high) ⌝ }
-    requires { ⌜ length (now z) ≡ 32 * vb ⌝ }
-    requires { ⌜ (window_ok base (length (now memory)) ≡ true)
-        × (first_outside base (length (now memory)) (strided_elements s vb (now z)) ≡ none) ⌝ }
-    ensures { λ r.
-        ⌜ StoredOf base (s .size) (now (memory .entry)) (now (patch .entry)) (strided_elements s vb (now (z .entry))) r
-        (now (memory .exit)) (now (patch .exit)) ⌝ }
+    requires strided_sound { StridedSound s vb × (s.low < s.high) }
+    requires z_len { length z.now ≡ 32 * vb }
+    requires memory_value { (window_ok base (length memory.old) ≡ true)
+        × (first_outside base (length memory.old) (strided_elements s vb z.now) ≡ none) }
+    ensures { StoredOf base s.size memory.old patch.old (strided_elements s vb z.now) result
+        memory.new patch.new }
 {
     let runs = runs_of(s, s.high - s.low);
     let count = runs.count;
@@ -163,12 +159,11 @@ pub fn store_strided(
     memory: &mut [u8],
     patch: &mut [u8],
 ) -> Verdict
-    requires { ⌜ StridedSound s vb ⌝ }
-    requires { ⌜ length (now z) ≡ 32 * vb ⌝ }
-    requires { ⌜ window_ok base (length (now memory)) ≡ true ⌝ }
-    ensures { λ r.
-        ⌜ StoredOf base (s .size) (now (memory .entry)) (now (patch .entry)) (strided_elements s vb (now (z .entry))) r
-        (now (memory .exit)) (now (patch .exit)) ⌝ }
+    requires strided_sound { StridedSound s vb }
+    requires z_len { length z.now ≡ 32 * vb }
+    requires memory_value { window_ok base (length memory.old) ≡ true }
+    ensures { StoredOf base s.size memory.old patch.old (strided_elements s vb z.now) result
+        memory.new patch.new }
 {
     match find_outside(s, vb, base, memory.len() as u64) {
         Search::Outside { element, address } => {

@@ -1,17 +1,13 @@
 -- Scatter and quadword stores from their keys on. For the contracts of the code's own functions. Assumes nothing.
-use Prim.Native.Nat.{ℕ, _+_, _*_, _^_, _≤_}
-use mathlib.Core.List.{List, [], _∷_}
-use mathlib.Core.Bool.{true}
-use mathlib.Core.Option.{none}
-use mathlib.Core.Path.{_≡_}
-use lib.ListN.{length}
-use Rattle·writes.specs.Elements.{Element}
-use Rattle·elements.specs.Accesses.{is_width}
-use Rattle·ordering.specs.Keys.{entries}
-use Rattle·stretches.specs.Stretches.{Seen, keys_of}
-use Rattle·cutting.specs.Cutting.{Fits}
-use Rattle·writing.specs.Writing.{Held}
-use Rattle·verdicts.specs.Verdicts.{first_outside}
+use Rattle.std.specs.Prelude.{ℕ, ◌+◌, ◌*◌, ◌^◌, ◌≤◌, List, [], ◌∷◌, true, ◌≡◌, length}
+use Rattle.std.proofs.Math.Option.{none}
+use Rattle.writes.specs.Elements.{Element}
+use Rattle.elements.specs.Accesses.{is_width}
+use Rattle.ordering.specs.Keys.{entries}
+use Rattle.stretches.specs.Stretches.{Seen, keys_of}
+use Rattle.cutting.specs.Cutting.{Fits}
+use Rattle.writing.specs.Writing.{Held}
+use Rattle.verdicts.specs.Verdicts.{first_outside}
 
 -- the first n keys of an array are those of elements that all lie in the window
 pub record Ready (W L step size : ℕ) (stored A : List ℕ) (n : ℕ) (es : List Element) : Type 0 where

@@ -1,22 +1,17 @@
 // Scatter and quadword stores from verdict 7 on: keys, stretches, verdict 12, room, memory, patch.
-ghost use mathlib.Core.Path.{_≡_};
-ghost use mathlib.Core.Bool.{true, _&&_};
-ghost use mathlib.Core.List.{List};
-ghost use Prim.Native.Nat.{_+_, _*_, _<_, _≤_};
-ghost use lib.Dec.{eqb};
-ghost use lib.ListN.{length};
-ghost use Rattle·writes.specs.Elements.{Element};
-ghost use Rattle·window.specs.Window.{window_ok};
-ghost use Rattle·elements.specs.Accesses.{VectorSound};
-ghost use Rattle·ordering.specs.Keys.{entries};
-ghost use Rattle·stretches.specs.Stretches.{joined};
-ghost use Rattle·checks.specs.Checking.{Sound, vectors_in};
-ghost use Rattle·outcomes.specs.Steps.{StoredUnder, StoredOf};
-ghost use Rattle·vectors·specs.specs.Steps.{Ready};
+ghost use Rattle.std.specs.Prelude.{◌≡◌, true, ◌&&◌, List, ◌+◌, ◌*◌, ◌<◌, ◌≤◌, eqb, length};
+ghost use Rattle.writes.specs.Elements.{Element};
+ghost use Rattle.window.specs.Window.{window_ok};
+ghost use Rattle.elements.specs.Accesses.{VectorSound};
+ghost use Rattle.ordering.specs.Keys.{entries};
+ghost use Rattle.stretches.specs.Stretches.{joined};
+ghost use Rattle.checks.specs.Checking.{Sound, vectors_in};
+ghost use Rattle.outcomes.specs.Steps.{StoredUnder, StoredOf};
+ghost use Rattle.vectors.specs.Steps.{Ready};
+
 use elements::VectorAccess;
 use gathering::Gathered;
-use verdicts::Refusal;
-use verdicts::Verdict;
+use verdicts::{Refusal, Verdict};
 
 // Doublewords that are one stretch: room, memory, a patch of one run. No array of stretches is made.
 fn finish_one(
@@ -27,12 +22,11 @@ fn finish_one(
     memory: &mut [u8],
     patch: &mut [u8],
 ) -> Verdict
-    requires { ⌜ ((es : List Element) × Ready base (length (now memory)) 8 8 (now stored) (now keys) n es) ⌝ }
-    requires { ⌜ length (joined 8 (entries (now keys) 0 n)) ≡ 1 ⌝ }
-    ensures { λ r.
-        ⌜ ((es : List Element)
-        → Ready base (length (now (memory .entry))) 8 8 (now (stored .entry)) (now (keys .entry)) n es
-        → StoredOf base 8 (now (memory .entry)) (now (patch .entry)) es r (now (memory .exit)) (now (patch .exit))) ⌝ }
+    requires ready { (es : List Element) × Ready base (length memory.old) 8 8 stored.now keys.now n es }
+    requires n_len { length (joined 8 (entries keys.now 0 n)) ≡ 1 }
+    ensures { (es : List Element)
+        → Ready base (length memory.old) 8 8 stored.now keys.now n es
+        → StoredOf base 8 memory.old patch.old es result memory.new patch.new }
 {
     if patch.len() < n * 8 + 16 {
         return Verdict::Refused {
@@ -51,8 +45,8 @@ fn finish_one(
 
 // Whether the keys are those of doublewords, and one stretch. The size decides by a branch of its own, before the keys are looked at.
 fn is_one_of_eights(keys: &[u32], n: usize, size: usize) -> bool
-    requires { ⌜ n ≤ length (now keys) ⌝ }
-    ensures { λ r. ⌜ r ≡ (eqb size 8 && eqb (length (joined 8 (entries (now (keys .entry)) 0 n))) 1) ⌝ }
+    requires { n ≤ length keys.now }
+    ensures { result ≡ (eqb size 8 && eqb (length (joined 8 (entries keys.now 0 n))) 1) }
 {
     if size != 8 {
         return false;
@@ -72,11 +66,10 @@ fn finish(
     memory: &mut [u8],
     patch: &mut [u8],
 ) -> Verdict
-    requires { ⌜ ((es : List Element) × Ready base (length (now memory)) step size (now stored) (now keys) n es) ⌝ }
-    ensures { λ r.
-        ⌜ ((es : List Element)
-        → Ready base (length (now (memory .entry))) step size (now (stored .entry)) (now (keys .entry)) n es
-        → StoredUnder strict base size (now (memory .entry)) (now (patch .entry)) es r (now (memory .exit)) (now (patch .exit))) ⌝ }
+    requires { (es : List Element) × Ready base (length memory.old) step size stored.now keys.now n es }
+    ensures { (es : List Element)
+        → Ready base (length memory.old) step size stored.now keys.now n es
+        → StoredUnder strict base size memory.old patch.old es result memory.new patch.new }
 {
     if is_one_of_eights(keys, n, size) {
         return finish_one(keys, n, stored, base, memory, patch);
@@ -118,12 +111,11 @@ pub fn store_vector(
     memory: &mut [u8],
     patch: &mut [u8],
 ) -> Verdict
-    requires { ⌜ VectorSound v vb ⌝ }
-    requires { ⌜ Sound vb (now z) (now p) ⌝ }
-    requires { ⌜ window_ok base (length (now memory)) ≡ true ⌝ }
-    ensures { λ r.
-        ⌜ StoredUnder strict base (v .size) (now (memory .entry)) (now (patch .entry)) (vectors_in v vb (now (z .entry)) (now (p .entry)))
-        r (now (memory .exit)) (now (patch .exit)) ⌝ }
+    requires vector_sound { VectorSound v vb }
+    requires sound { Sound vb z.now p.now }
+    requires memory_value { window_ok base (length memory.old) ≡ true }
+    ensures { StoredUnder strict base v.size memory.old patch.old (vectors_in v vb z.now p.now)
+        result memory.new patch.new }
 {
     let offsets = elements::register_of(z, vb, v.offsets);
     let governing = elements::register_of(p, vb / 8, v.governing);
@@ -137,15 +129,7 @@ pub fn store_vector(
             }
         }
         Gathered::Keys { n } => finish(
-            &keys,
-            n,
-            v.step,
-            v.size,
-            strict,
-            stored,
-            base,
-            memory,
-            patch,
+            &keys, n, v.step, v.size, strict, stored, base, memory, patch,
         ),
     }
 }

@@ -1,33 +1,33 @@
 -- The promises of the table of verdicts. Assumes nothing.
-use mathlib.Core.Path.{_≡_, refl, ap, _∙_}
+use mathlib.Core.Path.{◌≡◌, refl, ap, ◌∙◌}
 use mathlib.Core.Bool.{Bool, true}
-use mathlib.Core.Logic.{_↔_}
+use mathlib.Core.Logic.{◌↔◌}
 use mathlib.Core.Option.{Option, none, some}
 use Prim.Native.Nat.{ℕ, suc}
 use native.Mathlib.Omega.{arith}
 use borrow.Author.Tests.{ltb-true, lt-ltb}
 use lib.ListN.{length}
-use Rattle·encoding.specs.declared.Decoded.{Decoded}
-use Rattle·writes.specs.Elements.{Element, first_overlap}
-use Rattle·elements.specs.Machine.{Machine}
-use Rattle·verdicts·specs.specs.Verdicts.{elements_for, patch_of, first_outside, fault_of, overlap_of, row, table, refusal_number, number}
-use Rattle·verdicts·specs.specs.Statements.{Given, Numbers, FirstGivenDecides, TableNumbered, TableInOrder, TableGivenWhen}
-use Rattle·verdicts·specs.specs.declared.Flags.{Flags}
-use Rattle·verdicts·specs.specs.declared.Refusal.{Refusal}
-use Rattle·verdicts·proofs.proofs.Rows.{none-done, done-none, number-decides, decides-number, given_at, given-is}
-use Rattle·verdicts·proofs.proofs.Words.{length-given, registers-given, window-given}
-use Rattle·verdicts·proofs.proofs.Words.{undefined-given, illegal-given, stack-given, fault-given, overlap-given}
+use Rattle.encoding.specs.declared.Decoded.{Decoded}
+use Rattle.writes.specs.Elements.{Element, first_overlap}
+use Rattle.elements.specs.Machine.{Machine}
+use Rattle.verdicts.specs.Verdicts.{elements_for, patch_of, first_outside, fault_of, overlap_of, row, table, refusal_number, number}
+use Rattle.verdicts.specs.Statements.{Given, Numbers, FirstGivenDecides, TableNumbered, TableInOrder, TableGivenWhen}
+use Rattle.verdicts.specs.declared.Flags.{Flags}
+use Rattle.verdicts.specs.declared.Refusal.{Refusal}
+use Rattle.verdicts.proofs.Rows.{none_done, done_none, number-decides, decides-number, given_at, given_is}
+use Rattle.verdicts.proofs.Words.{length-given, registers-given, window-given}
+use Rattle.verdicts.proofs.Words.{undefined-given, illegal-given, stack-given, fault-given, overlap-given}
 
 pub first-given-decides : FirstGivenDecides
 first-given-decides rs done u zero = (
   (λ n h. (number-decides done zero rs u n h, decides-number done zero rs u n)),
-  (done-none done zero rs u, (λ h. ap number (none-done rs done h) ∙ zero)),
+  (done_none done zero rs u, (λ h. ap number (none_done rs done h) ∙ zero)),
 )
 
 -- one equivalence after the other
-infixl 20 _then_
-_then_ : {A B C : Type 0} → A ↔ B → B ↔ C → A ↔ C
-p then q = ((λ a. q .0 (p .0 a)), (λ c. p .1 (q .1 c)))
+infixl 20 ◌then◌
+◌then◌ : {A B C : Type 0} → A ↔ B → B ↔ C → A ↔ C
+p then q = ((λ a. q.0 (p.0 a)), (λ c. p.1 (q.1 c)))
 
 -- ---- the table
 
@@ -52,16 +52,16 @@ pub table-in-order : TableInOrder
 table-in-order f m W L d room = refl
 
 -- no two lines have one number
-line-of : (f : Flags) (m : Machine) (W L : ℕ) (d : Decoded) (room n : ℕ)
+line_of : (f : Flags) (m : Machine) (W L : ℕ) (d : Decoded) (room n : ℕ)
     → Given n (table f m W L d room) ↔ (given_at n (table f m W L d room) ≡ true)
-line-of f m W L d room n = given-is n (table f m W L d room) refl
+line_of f m W L d room n = given_is n (table f m W L d room) refl
 
 pub table-given-when : TableGivenWhen
 table-given-when f m W L d room =
     let k = length (patch_of (elements_for m d)) in
-    let line = line-of f m W L d room in
+    let line = line_of f m W L d room in
     record {
-      vector_length = line 1 then length-given (f .early) (f .streaming) (m .vb);
+      vector_length = line 1 then length-given f.early f.streaming m.vb;
       registers = line 2 then registers-given m;
       window = line 3 then window-given W L;
       undefined = line 4 then undefined-given f d;

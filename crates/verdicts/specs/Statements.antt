@@ -1,52 +1,46 @@
 -- What is promised of the table of verdicts. Each has its proof in proofs/Statements.antt. Assumes nothing.
-use Prim.Native.Nat.{ℕ, _+_, _*_, _%_, _^_, _≤_, _<_}
-use mathlib.Core.Bool.{Bool, true, false, cond}
-use mathlib.Core.List.{List, [], _∷_, map}
-use mathlib.Core.Logic.{_↔_, _⊎_}
-use mathlib.Core.Path.{_≡_}
-use lib.Dec.{eqb}
-use lib.ListN.{length}
-use Rattle·encoding.specs.declared.Decoded.{Decoded}
-use Rattle·encoding.specs.declared.Decoded.the-variants as D
-use Rattle·encoding.specs.declared.Store.the-variants.{Scatter, Strided, Quadword}
-use Rattle·writes.specs.Elements.{Element}
-use Rattle·window.specs.Window.{in_window}
-use Rattle·elements.specs.Machine.{Machine}
-use Rattle·verdicts·specs.specs.Verdicts.{elements_for, patch_of, Row, table, decided, refusal_number, number}
-use Rattle·verdicts·specs.specs.declared.Flags.{Flags}
-use Rattle·verdicts·specs.specs.declared.Verdict.{Verdict}
+use Rattle.std.specs.Prelude.{ℕ, ◌+◌, ◌*◌, ◌%◌, ◌^◌, ◌≤◌, ◌<◌, Bool, true, false, cond, List, [], ◌∷◌, map, ◌↔◌, ◌⊎◌, ◌≡◌, eqb, length}
+use Rattle.encoding.specs.declared.Decoded.{Decoded}
+use Rattle.encoding.specs.declared.Decoded.TheVariants as D
+use Rattle.encoding.specs.declared.Store.TheVariants.{Scatter, Strided, Quadword}
+use Rattle.writes.specs.Elements.{Element}
+use Rattle.window.specs.Window.{in_window}
+use Rattle.elements.specs.Machine.{Machine}
+use Rattle.verdicts.specs.Verdicts.{elements_for, patch_of, Row, table, decided, refusal_number, number}
+use Rattle.verdicts.specs.declared.Flags.{Flags}
+use Rattle.verdicts.specs.declared.Verdict.{Verdict}
 
 -- ---- any lines of a table
 
 -- a line of number n is given
 abbrev pub Given : ℕ → List Row → Type 0
 Given n [] = ⊥
-Given n (r ∷ rs) = ((r .number ≡ n) × (r .given ≡ true)) ⊎ Given n rs
+Given n (r ∷ rs) = ((r.number ≡ n) × (r.given ≡ true)) ⊎ Given n rs
 
 -- none is given
 abbrev pub NoneGiven : List Row → Type 0
 NoneGiven [] = Unit {0}
-NoneGiven (r ∷ rs) = (r .given ≡ false) × NoneGiven rs
+NoneGiven (r ∷ rs) = (r.given ≡ false) × NoneGiven rs
 
 -- a line of number n is given, and none that stands before it
 abbrev pub Decides : ℕ → List Row → Type 0
 Decides n [] = ⊥
-Decides n (r ∷ rs) = ((r .number ≡ n) × (r .given ≡ true)) ⊎ ((r .given ≡ false) × Decides n rs)
+Decides n (r ∷ rs) = ((r.number ≡ n) × (r.given ≡ true)) ⊎ ((r.given ≡ false) × Decides n rs)
 
 -- the lines that stand before that of number n
 abbrev pub before : ℕ → List Row → List Row
 before n [] = []
-before n (r ∷ rs) = cond (eqb (r .number) n) [] (r ∷ before n rs)
+before n (r ∷ rs) = cond (eqb r.number n) [] (r ∷ before n rs)
 
 -- the lines but that of number n
 abbrev pub without : ℕ → List Row → List Row
 without n [] = []
-without n (r ∷ rs) = cond (eqb (r .number) n) (without n rs) (r ∷ without n rs)
+without n (r ∷ rs) = cond (eqb r.number n) (without n rs) (r ∷ without n rs)
 
 -- a line's number is that of what it returns, and isn't done's
 pub record Numbers (r : Row) : Type 0 where
-  pub same : refusal_number (r .returned) ≡ r .number
-  pub some : r .number ≡ 0 → ⊥
+  pub same : refusal_number r.returned ≡ r.number
+  pub some : r.number ≡ 0 → ⊥
 
 abbrev pub Numbered : List Row → Type 0
 Numbered [] = Unit {0}
@@ -69,7 +63,7 @@ TableNumbered = (f : Flags) (m : Machine) (W L : ℕ) (d : Decoded) (room : ℕ)
 abbrev pub TableInOrder : Type 0
 TableInOrder =
     (f : Flags) (m : Machine) (W L : ℕ) (d : Decoded) (room : ℕ)
-    → map (λ (r : Row). r .number) (table f m W L d room) ≡ 1 ∷ 2 ∷ 3 ∷ 4 ∷ 5 ∷ 6 ∷ 7 ∷ 12 ∷ 8 ∷ []
+    → map (λ (r : Row). r.number) (table f m W L d room) ≡ 1 ∷ 2 ∷ 3 ∷ 4 ∷ 5 ∷ 6 ∷ 7 ∷ 12 ∷ 8 ∷ []
 
 -- ---- its column "Given exactly when", line by line
 
@@ -85,7 +79,7 @@ pub data StandsBefore (y x : Element) : List Element → Type 0 where
 
 -- an address that an element writes
 abbrev pub Writes : Element → ℕ → Type 0
-Writes x a = (x .address ≤ a) × (a < x .address + length (x .bytes))
+Writes x a = (x.address ≤ a) × (a < x.address + length x.bytes)
 
 -- "two different active elements share a byte", of the list of the active ones: two of its places, and an address that both write
 abbrev pub TwoShare : List Element → Type 0
@@ -111,29 +105,29 @@ AllowedLength false streaming vb = OneOfFive vb
 -- "All need SME2 and are illegal as classes 8 to 11 are"
 abbrev pub NoClassOrOff : Flags → Decoded → Type 0
 NoClassOrOff f D.Undefined = Unit {0}
-NoClassOrOff f (D.Known (Scatter g)) = f .sve ≡ false
-NoClassOrOff f (D.Known (Strided g)) = f .sme2 ≡ false
-NoClassOrOff f (D.Known (Quadword g)) = f .sve2p1 ≡ false
+NoClassOrOff f (D.Known (Scatter g)) = f.sve ≡ false
+NoClassOrOff f (D.Known (Strided g)) = f.sme2 ≡ false
+NoClassOrOff f (D.Known (Quadword g)) = f.sve2p1 ≡ false
 
 -- "1..7 and 12: streaming on and FA64 off; 8..11: streaming off"
 abbrev pub NotInThisMode : Flags → Decoded → Type 0
 NotInThisMode f D.Undefined = ⊥
-NotInThisMode f (D.Known (Scatter g)) = (f .streaming ≡ true) × (f .fa64 ≡ false)
-NotInThisMode f (D.Known (Strided g)) = f .streaming ≡ false
-NotInThisMode f (D.Known (Quadword g)) = (f .streaming ≡ true) × (f .fa64 ≡ false)
+NotInThisMode f (D.Known (Scatter g)) = (f.streaming ≡ true) × (f.fa64 ≡ false)
+NotInThisMode f (D.Known (Strided g)) = f.streaming ≡ false
+NotInThisMode f (D.Known (Quadword g)) = (f.streaming ≡ true) × (f.fa64 ≡ false)
 
 -- "Rn 31 (not class 12)"
 abbrev pub BasedOnSp : Decoded → Type 0
 BasedOnSp D.Undefined = ⊥
-BasedOnSp (D.Known (Scatter g)) = g .rn ≡ 31
-BasedOnSp (D.Known (Strided g)) = g .rn ≡ 31
+BasedOnSp (D.Known (Scatter g)) = g.rn ≡ 31
+BasedOnSp (D.Known (Strided g)) = g.rn ≡ 31
 BasedOnSp (D.Known (Quadword g)) = ⊥
 
 pub record GivenWhen (f : Flags) (m : Machine) (W L : ℕ) (d : Decoded) (room : ℕ) : Type 0 where
   -- "VB is not one of the five"; "Verdict 1 is amended accordingly and keeps its place." (document 02 (vi))
-  pub vector_length : Given 1 (table f m W L d room) ↔ (AllowedLength (f .early) (f .streaming) (m .vb) → ⊥)
+  pub vector_length : Given 1 (table f m W L d room) ↔ (AllowedLength f.early f.streaming m.vb → ⊥)
   -- "Z or P buffer has another size"
-  pub registers : Given 2 (table f m W L d room) ↔ ((length (m .z) ≡ 32 * m .vb) × (length (m .p) ≡ 2 * m .vb) → ⊥)
+  pub registers : Given 2 (table f m W L d room) ↔ ((length m.z ≡ 32 * m.vb) × (length m.p ≡ 2 * m.vb) → ⊥)
   -- "L > 65,536 or W + L > 2^64"
   pub window : Given 3 (table f m W L d room) ↔ ((65536 < L) ⊎ (2 ^ 64 < W + L))
   pub undefined : Given 4 (table f m W L d room) ↔ NoClassOrOff f d
@@ -141,14 +135,14 @@ pub record GivenWhen (f : Flags) (m : Machine) (W L : ℕ) (d : Decoded) (room :
   -- "Rn 31 (not class 12), SP check on, SP not a multiple of 16, and an active element or the second SP flag"
   pub stack : Given 6 (table f m W L d room)
       ↔ (BasedOnSp d
-      × (f .«sp_check» ≡ true)
-      × (m .sp % 16 ≡ 0 → ⊥)
-      × (((x : Element) × Listed x (elements_for m d)) ⊎ (f .«sp_check_none_active» ≡ true)))
+      × (f.sp_check ≡ true)
+      × (m.sp % 16 ≡ 0 → ⊥)
+      × (((x : Element) × Listed x (elements_for m d)) ⊎ (f.sp_check_none_active ≡ true)))
   -- "some active element has a byte outside the window", that is, doesn't lie in it
   pub fault : Given 7 (table f m W L d room)
-      ↔ ((x : Element) × Listed x (elements_for m d) × (in_window W L (x .address) (length (x .bytes)) ≡ false))
+      ↔ ((x : Element) × Listed x (elements_for m d) × (in_window W L x.address (length x.bytes) ≡ false))
   -- "With it on, verdict 12 is given exactly when two different active elements share a byte" (document 02 (viii))
-  pub overlap : Given 12 (table f m W L d room) ↔ ((f .strict ≡ true) × TwoShare (elements_for m d))
+  pub overlap : Given 12 (table f m W L d room) ↔ ((f.strict ≡ true) × TwoShare (elements_for m d))
   -- "patch buffer shorter than the patch"
   pub no_room : Given 8 (table f m W L d room) ↔ (room < length (patch_of (elements_for m d)))
 

@@ -1,30 +1,26 @@
 -- Document 01, 'Verdicts, in the order they are checked', 1 to 8, and document 02 (viii)'s 12, for the merged call of document 02 (ix):
 -- "one call checks 1 to 7, 12 and 8 in that order". 'Verdict' is document 01's term for what a call answers. Assumes nothing.
-use Prim.Native.Nat.{ℕ, _*_, _%_}
-use mathlib.Core.Bool.{Bool, true, false, not, cond, _&&_, _||_}
-use mathlib.Core.List.{List, [], _∷_}
-use mathlib.Core.Option.{Option, none, some}
-use lib.Dec.{eqb, ltb, leb}
-use lib.ListN.{length}
-use Rattle·encoding.specs.declared.Feature.{Feature}
-use Rattle·encoding.specs.declared.Feature.the-variants.{SVE, SME2, SVE2p1}
-use Rattle·encoding.specs.Decoding.{decode_of}
-use Rattle·encoding.specs.Encoding.{class_for, feature_of}
-use Rattle·encoding.specs.declared.Decoded.{Decoded}
-use Rattle·encoding.specs.declared.Decoded.the-variants as D
-use Rattle·encoding.specs.declared.Store.{Store}
-use Rattle·encoding.specs.declared.Store.the-variants.{Scatter, Strided, Quadword}
-use Rattle·writes.specs.Encoding.{encode}
-use Rattle·writes.specs.Elements.{Element, net_effect, steps_of, first_overlap}
-use Rattle·window.specs.Window.{window_ok, in_window, byte_outside}
-use Rattle·elements.specs.Machine.{Machine}
-use Rattle·elements.specs.Stores.{size_of}
-use Rattle·elements.specs.Elements.{elements}
-use Rattle·verdicts·specs.specs.declared.Flags.{Flags}
-use Rattle·verdicts·specs.specs.declared.Refusal.{Refusal}
-use Rattle·verdicts·specs.specs.declared.Refusal.the-variants.{Length, Registers, Window, Undefined, Illegal, Stack, Fault, Overlap, NoRoom}
-use Rattle·verdicts·specs.specs.declared.Verdict.{Verdict}
-use Rattle·verdicts·specs.specs.declared.Verdict.the-variants.{Done, Refused}
+use Rattle.std.specs.Prelude.{ℕ, ◌*◌, ◌%◌, Bool, true, false, not, cond, ◌&&◌, ◌||◌, List, [], ◌∷◌, eqb, ltb, leb, length}
+use Rattle.std.proofs.Math.Option.{Option, none, some}
+use Rattle.encoding.specs.declared.Feature.{Feature}
+use Rattle.encoding.specs.declared.Feature.TheVariants.{SVE, SME2, SVE2p1}
+use Rattle.encoding.specs.Decoding.{decode_of}
+use Rattle.encoding.specs.Encoding.{class_for, feature_of}
+use Rattle.encoding.specs.declared.Decoded.{Decoded}
+use Rattle.encoding.specs.declared.Decoded.TheVariants as D
+use Rattle.encoding.specs.declared.Store.{Store}
+use Rattle.encoding.specs.declared.Store.TheVariants.{Scatter, Strided, Quadword}
+use Rattle.writes.specs.Encoding.{encode}
+use Rattle.writes.specs.Elements.{Element, net_effect, steps_of, first_overlap}
+use Rattle.window.specs.Window.{window_ok, in_window, byte_outside}
+use Rattle.elements.specs.Machine.{Machine}
+use Rattle.elements.specs.Stores.{size_of}
+use Rattle.elements.specs.Elements.{elements}
+use Rattle.verdicts.specs.declared.Flags.{Flags}
+use Rattle.verdicts.specs.declared.Refusal.{Refusal}
+use Rattle.verdicts.specs.declared.Refusal.TheVariants.{Length, Registers, Window, Undefined, Illegal, Stack, Fault, Overlap, NoRoom}
+use Rattle.verdicts.specs.declared.Verdict.{Verdict}
+use Rattle.verdicts.specs.declared.Verdict.TheVariants.{Done, Refused}
 
 -- ---- the store of a word
 
@@ -55,14 +51,14 @@ length_ok early streaming vb = cond (early && not streaming) (eqb (vb % 16) 0 &&
 
 -- 2 registers: "Z or P buffer has another size" than 32·VB and 2·VB bytes
 unfoldable pub registers_ok : Machine → Bool
-registers_ok m = eqb (length (m .z)) (32 * m .vb) && eqb (length (m .p)) (2 * m .vb)
+registers_ok m = eqb (length m.z) (32 * m.vb) && eqb (length m.p) (2 * m.vb)
 
 -- 4 undefined: "no class, or flag off: SVE for 1..7, SME2 for 8..11, SVE2p1 for 12"; document 02 (i), of 13 to 24: "All need the SVE
 -- flag and are illegal as classes 1 to 7 are."; (vii), of 25 to 36: "All need SME2 and are illegal as classes 8 to 11 are"
 abbrev pub flag_on : Flags → Feature → Bool
-flag_on f SVE = f .sve
-flag_on f SME2 = f .sme2
-flag_on f SVE2p1 = f .sve2p1
+flag_on f SVE = f.sve
+flag_on f SME2 = f.sme2
+flag_on f SVE2p1 = f.sve2p1
 
 abbrev pub undefined : Flags → Decoded → Bool
 undefined f D.Undefined = true
@@ -70,9 +66,9 @@ undefined f (D.Known s) = not (flag_on f (feature_of s))
 
 -- 5 illegal: "1..7 and 12: streaming on and FA64 off; 8..11: streaming off"; 13 to 24 as 1 to 7, 25 to 36 as 8 to 11
 abbrev pub illegal : Flags → Feature → Bool
-illegal f SVE = f .streaming && not (f .fa64)
-illegal f SME2 = not (f .streaming)
-illegal f SVE2p1 = f .streaming && not (f .fa64)
+illegal f SVE = f.streaming && not f.fa64
+illegal f SME2 = not f.streaming
+illegal f SVE2p1 = f.streaming && not f.fa64
 
 abbrev pub illegal_for : Flags → Decoded → Bool
 illegal_for f D.Undefined = false
@@ -80,8 +76,8 @@ illegal_for f (D.Known s) = illegal f (feature_of s)
 
 -- 6 stack: "Rn 31 (not class 12), SP check on, SP not a multiple of 16, and an active element or the second SP flag"
 abbrev pub on_stack : Store → Bool
-on_stack (Scatter g) = eqb (g .rn) 31
-on_stack (Strided g) = eqb (g .rn) 31
+on_stack (Scatter g) = eqb g.rn 31
+on_stack (Strided g) = eqb g.rn 31
 on_stack (Quadword g) = false
 
 -- of the list of the active ones
@@ -90,16 +86,16 @@ some_active [] = false
 some_active (x ∷ xs) = true
 
 abbrev pub stack : Flags → ℕ → Bool → List Element → Bool
-stack f sp s es = s && f .«sp_check» && not (eqb (sp % 16) 0) && (some_active es || f .«sp_check_none_active»)
+stack f sp s es = s && f.sp_check && not (eqb (sp % 16) 0) && (some_active es || f.sp_check_none_active)
 
 abbrev pub stack_for : Flags → Machine → Decoded → Bool
 stack_for f m D.Undefined = false
-stack_for f m (D.Known s) = stack f (m .sp) (on_stack s) (elements m s)
+stack_for f m (D.Known s) = stack f m.sp (on_stack s) (elements m s)
 
 -- 7 fault: "some active element has a byte outside the window"; the lowest such element
 unfoldable pub first_outside : ℕ → ℕ → List Element → Option Element
 first_outside W L [] = none
-first_outside W L (x ∷ xs) = cond (in_window W L (x .address) (length (x .bytes))) (first_outside W L xs) (some x)
+first_outside W L (x ∷ xs) = cond (in_window W L x.address (length x.bytes)) (first_outside W L xs) (some x)
 
 abbrev pub found : Option Element → Bool
 found none = false
@@ -109,16 +105,16 @@ found (some x) = true
 -- the window"
 abbrev pub fault_of : ℕ → ℕ → Option Element → Refusal
 fault_of W L none = Fault 0 0
-fault_of W L (some x) = Fault (x .number) (byte_outside W L (x .address) (length (x .bytes)))
+fault_of W L (some x) = Fault x.number (byte_outside W L x.address (length x.bytes))
 
 -- 12 overlap, document 02 (viii): "With it on, verdict 12 is given exactly when two different active elements share a byte, and returns the
 -- lowest active element that shares one with a lower active element, and its first address."
 abbrev pub overlap : Flags → List Element → Bool
-overlap f es = f .strict && found (first_overlap es)
+overlap f es = f.strict && found (first_overlap es)
 
 abbrev pub overlap_of : Option Element → Refusal
 overlap_of none = Overlap 0 0
-overlap_of (some x) = Overlap (x .number) (x .address)
+overlap_of (some x) = Overlap x.number x.address
 
 -- ---- the table
 
@@ -135,7 +131,7 @@ row n c r = record { number = n; given = c; returned = r }
 -- `room` bytes; 12 "stands after 7 and before 8" (document 02 (viii))
 abbrev pub table : Flags → Machine → ℕ → ℕ → Decoded → ℕ → List Row
 table f m W L d room =
-    row 1 (not (length_ok (f .early) (f .streaming) (m .vb))) Length
+    row 1 (not (length_ok f.early f.streaming m.vb)) Length
     ∷ row 2 (not (registers_ok m)) Registers
     ∷ row 3 (not (window_ok W L)) Window
     ∷ row 4 (undefined f d) Undefined
@@ -149,7 +145,7 @@ table f m W L d room =
 -- the first line whose condition holds decides, and done is what stands behind the last
 unfoldable pub decided : List Row → Verdict → Verdict
 decided [] done = done
-decided (r ∷ rs) done = cond (r .given) (Refused (r .returned)) (decided rs done)
+decided (r ∷ rs) done = cond r.given (Refused r.returned) (decided rs done)
 
 -- "Done reports the number of active elements and the number of bytes moved, the first times msize/8."; "besides the two counts, the
 -- patch's length"; document 02 (iv): "The steps are counted"

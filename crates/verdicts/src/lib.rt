@@ -1,4 +1,5 @@
 // Flags, refusals and verdicts. What decides them is in specs/.
+#[derive(Drop)]
 pub struct Flags {
     pub sve: bool,
     pub sme2: bool,
@@ -15,6 +16,7 @@ pub struct Flags {
 }
 
 // Document 01's refusals 1 to 8, and document 02 (viii)'s, 12, which stands before 8.
+#[derive(Drop)]
 pub enum Refusal {
     Length,
     Registers,
@@ -30,6 +32,7 @@ pub enum Refusal {
 }
 
 // What a store answers.
+#[derive(Drop)]
 pub enum Verdict {
     Done {
         elements: u64,

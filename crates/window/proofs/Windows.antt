@@ -1,12 +1,7 @@
 -- The window's own test, and that of some bytes against it. Assumes nothing.
-use mathlib.Core.Path.{_≡_, refl, sym, ap, _∙_, subst}
-use Prim.Native.Nat.{ℕ, zero, suc, _+_, _-_, _%_, _^_, _≤_, _<_}
-use native.Mathlib.Omega.{arith}
-use mathlib.Core.Bool.{Bool, true, false, not, cond, _&&_}
-use lib.Dec.{leb}
-use borrow.Author.Tests.{le-leb, leb-true, leb-false}
-use Rattle·window·specs.specs.Window.{window_ok, in_window, offset_in, outside_from, byte_outside}
-use Rattle·endian.proofs.Order.{two, three, not-both, both}
+use Rattle.std.proofs.Common.{◌≡◌, ℕ, zero, suc, ◌+◌, ◌-◌, ◌%◌, ◌^◌, ◌<◌, ◌≤◌, Bool, true, false, cond, not, ◌&&◌, leb, sym, refl, ap, ◌∙◌, subst, arith, le-leb, leb-false, leb-true}
+use Rattle.window.specs.Window.{window_ok, in_window, offset_in, outside_from, byte_outside}
+use Rattle.endian.proofs.Order.{two, three, not-both, both}
 
 -- two comparisons that both hold, and that don't
 within : (a b c d : ℕ) → a ≤ b → c ≤ d → (leb a b && leb c d) ≡ true
@@ -15,10 +10,10 @@ within a b c d h k = simp (le-leb a b h, le-leb c d k)
 within-inv : (a b c d : ℕ) → (leb a b && leb c d) ≡ true → (a ≤ b) × (c ≤ d)
 within-inv a b c d e =
     let t = both (leb a b) (leb c d) e in
-    (leb-true a b (t .0), leb-true c d (t .1))
+    (leb-true a b t.0, leb-true c d t.1)
 
-not-within : (a b c d : ℕ) → ((a ≤ b) × (c ≤ d) → ⊥) → (leb a b && leb c d) ≡ false
-not-within a b c d h = go (leb a b && leb c d) refl
+not_within : (a b c d : ℕ) → ((a ≤ b) × (c ≤ d) → ⊥) → (leb a b && leb c d) ≡ false
+not_within a b c d h = go (leb a b && leb c d) refl
   where
     go : (t : Bool) → (leb a b && leb c d) ≡ t → t ≡ false
     go true e = absurd (h (within-inv a b c d e))
@@ -34,7 +29,7 @@ window-inv W L e = within-inv L 65536 (W + L) (2 ^ 64) e
 
 pub window-false : (W L : ℕ) → ((L ≤ 65536) × (W + L ≤ 2 ^ 64) → ⊥) → window_ok W L ≡ false
 unfolding window_ok
-window-false W L h = not-within L 65536 (W + L) (2 ^ 64) h
+window-false W L h = not_within L 65536 (W + L) (2 ^ 64) h
 
 pub in-window : (W L s n : ℕ) → W ≤ s → s + n ≤ W + L → in_window W L s n ≡ true
 unfolding in_window
@@ -46,7 +41,7 @@ in-window-inv W L s n e = within-inv W s (s + n) (W + L) e
 
 pub not-in-window : (W L s n : ℕ) → ((W ≤ s) × (s + n ≤ W + L) → ⊥) → in_window W L s n ≡ false
 unfolding in_window
-not-in-window W L s n h = not-within W s (s + n) (W + L) h
+not-in-window W L s n h = not_within W s (s + n) (W + L) h
 
 -- an offset that leaves room for n bytes is below the limit; one that wraps is not
 module _ (W L n s limit : ℕ) (ok : window_ok W L ≡ true) (some : 1 ≤ n) (is : limit ≡ L + 1 - n) (small : s < 2 ^ 64) where
@@ -54,7 +49,7 @@ module _ (W L n s limit : ℕ) (ok : window_ok W L ≡ true) (some : 1 ≤ n) (i
   past-limit = go (leb limit (offset_in W s)) refl
     where
       top : W + L ≤ 2 ^ 64
-      top = window-inv W L ok .1
+      top = (window-inv W L ok).1
 
       go : (t : Bool) → leb limit (offset_in W s) ≡ t → t ≡ not (in_window W L s n)
       go true e =
@@ -103,17 +98,17 @@ module _ (W L a : ℕ) where
 
     -- the byte behind the window isn't in it, modulo 2^64 either
     behind : in_window W L ((W + L) % 2 ^ 64) 1 ≡ false
-    behind = not-in-window W L ((W + L) % 2 ^ 64) 1 (λ h. omega (arith, window, h .0, h .1))
+    behind = not-in-window W L ((W + L) % 2 ^ 64) 1 (λ h. omega (arith, window, h.0, h.1))
 
     -- how far the byte behind the window is, where the first byte is in it
     abbrev gap : ℕ
     gap = W + L - a
 
     reached : in_window W L a 1 ≡ true → (a + gap) % 2 ^ 64 ≡ (W + L) % 2 ^ 64
-    reached e = let h = in-window-inv W L a 1 e in omega (arith, h .1)
+    reached e = let h = in-window-inv W L a 1 e in omega (arith, h.1)
 
-    from-first : (i : ℕ) → i < n → in_window W L ((a + i) % 2 ^ 64) 1 ≡ false → Least W L a n (byte_outside W L a n)
-    from-first i h o =
+    from_first : (i : ℕ) → i < n → in_window W L ((a + i) % 2 ^ 64) 1 ≡ false → Least W L a n (byte_outside W L a n)
+    from_first i h o =
         let w : 0 + n ≡ n = omega arith in
         subst (λ (m : ℕ). Least W L a m (byte_outside W L a n)) w
         (least-from 0 n (λ j q. absurd (omega arith)) i (omega arith) (omega arith) o)
@@ -123,11 +118,11 @@ module _ (W L a : ℕ) where
       where
         go : (b : Bool) → in_window W L a 1 ≡ b → Least W L a n (byte_outside W L a n)
         go false e =
-            from-first 0 (omega arith) (ap (λ (z : ℕ). in_window W L z 1) first-byte ∙ e)
+            from_first 0 (omega arith) (ap (λ (z : ℕ). in_window W L z 1) first-byte ∙ e)
         go true e =
             let h = in-window-inv W L a 1 e in
-            from-first gap
-            (two gap n (λ p. omega arith) (λ p. not-both (in_window W L a n) (in-window W L a n (h .0) (omega (arith, h .1))) out))
+            from_first gap
+            (two gap n (λ p. omega arith) (λ p. not-both (in_window W L a n) (in-window W L a n h.0 (omega (arith, h.1))) out))
             (ap (λ (z : ℕ). in_window W L z 1) (reached e) ∙ behind)
 
     byte-some : cond (in_window W L a 1) ((W + L) % 2 ^ 64) a ≡ byte_outside W L a n
@@ -138,18 +133,18 @@ module _ (W L a : ℕ) where
 
         go : (b : Bool) → in_window W L a 1 ≡ b → cond b ((W + L) % 2 ^ 64) a ≡ byte_outside W L a n
         go false e =
-            three 0 (least .at)
-            (λ p. not-both _ (least .before 0 p) (ap (λ (z : ℕ). in_window W L z 1) first-byte ∙ e))
-            (λ p. sym (least .is ∙ ap (λ (z : ℕ). (a + z) % 2 ^ 64) (sym p) ∙ first-byte))
+            three 0 least.at
+            (λ p. not-both _ (least.before 0 p) (ap (λ (z : ℕ). in_window W L z 1) first-byte ∙ e))
+            (λ p. sym (least.is ∙ ap (λ (z : ℕ). (a + z) % 2 ^ 64) (sym p) ∙ first-byte))
             (λ p. absurd (omega arith))
         go true e =
             let h = in-window-inv W L a 1 e in
-            three (least .at) gap
+            three least.at gap
             (λ p.
-            let w : (a + least .at) % 2 ^ 64 ≡ a + least .at = omega (arith, window .1) in
-            not-both _ (in-window W L (byte_outside W L a n) 1 (omega (arith, least .is, h .0)) (omega (arith, least .is))) (least .out))
-            (λ p. sym (least .is ∙ ap (λ (z : ℕ). (a + z) % 2 ^ 64) p ∙ reached e))
-            (λ p. not-both _ (least .before gap p) (ap (λ (z : ℕ). in_window W L z 1) (reached e) ∙ behind))
+            let w : (a + least.at) % 2 ^ 64 ≡ a + least.at = omega (arith, window.1) in
+            not-both _ (in-window W L (byte_outside W L a n) 1 (omega (arith, least.is, h.0)) (omega (arith, least.is))) least.out)
+            (λ p. sym (least.is ∙ ap (λ (z : ℕ). (a + z) % 2 ^ 64) p ∙ reached e))
+            (λ p. not-both _ (least.before gap p) (ap (λ (z : ℕ). in_window W L z 1) (reached e) ∙ behind))
 
 -- the first byte is outside, or else the one behind the window is the first that is
 pub byte-is : (W L a n : ℕ) → window_ok W L ≡ true → a < 2 ^ 64 → in_window W L a n ≡ false
@@ -157,6 +152,6 @@ pub byte-is : (W L a n : ℕ) → window_ok W L ≡ true → a < 2 ^ 64 → in_w
 unfolding outside_from
 byte-is W L a zero ok small out =
     ap (λ (b : Bool). cond b ((W + L) % 2 ^ 64) a)
-    (not-in-window W L a 1 (λ h. not-both (in_window W L a 0) (in-window W L a 0 (h .0) (omega (arith, h .1))) out))
+    (not-in-window W L a 1 (λ h. not-both (in_window W L a 0) (in-window W L a 0 h.0 (omega (arith, h.1))) out))
     ∙ omega arith
 byte-is W L a (suc n) ok small out = byte-some W L a (suc n) ok small (omega arith) out

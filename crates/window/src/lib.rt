@@ -1,13 +1,10 @@
 // The window's tests: whether it is one, whether bytes lie in it, and the first that doesn't.
-ghost use mathlib.Core.Path.{_≡_};
-ghost use mathlib.Core.Bool.{cond};
-ghost use Prim.Native.Nat.{_+_, _-_, _%_, _^_, _≤_};
-ghost use lib.Dec.{leb};
-ghost use Rattle·window·specs.specs.Window.{window_ok, in_window, offset_in};
+ghost use Rattle.std.specs.Prelude.{◌≡◌, ◌+◌, ◌-◌, ◌%◌, ◌^◌, ◌≤◌, if◌then◌else◌, nat_le};
+ghost use Rattle.window.specs.Window.{window_ok, in_window, offset_in};
 
 // Whether the window is one: at most 65,536 bytes, and not past 2^64.
 pub fn window_ok(base: u64, len: u64) -> bool
-    ensures { λ r. ⌜ r ≡ window_ok base len ⌝ }
+    ensures { result ≡ window_ok base len }
 {
     if 65536 < len {
         return false;
@@ -23,7 +20,7 @@ pub fn window_ok(base: u64, len: u64) -> bool
 
 // Whether n bytes from `start` on lie in the window.
 pub fn inside(base: u64, room: u64, start: u64, n: u64) -> bool
-    ensures { λ r. ⌜ r ≡ in_window base room start n ⌝ }
+    ensures { result ≡ in_window base room start n }
 {
     if start < base {
         return false;
@@ -40,8 +37,8 @@ pub fn inside(base: u64, room: u64, start: u64, n: u64) -> bool
 
 // How many offsets in a window of `room` bytes leave room for n bytes from there on.
 pub fn limit_of(room: u64, n: u64) -> u64
-    requires { ⌜ room ≤ 65536 ⌝ }
-    ensures { λ r. ⌜ r ≡ room + 1 - n ⌝ }
+    requires { room ≤ 65536 }
+    ensures { result ≡ room + 1 - n }
 {
     let past = room + 1;
     if past < n {
@@ -53,7 +50,7 @@ pub fn limit_of(room: u64, n: u64) -> u64
 // Whether an address is at the limit or past it, counted from the window's start. With the limit of `limit_of` that says that the bytes
 // don't lie in the window: one comparison, since an offset that wraps is large.
 pub fn is_past(base: u64, limit: u64, start: u64) -> bool
-    ensures { λ r. ⌜ r ≡ leb limit (offset_in base start) ⌝ }
+    ensures { result ≡ nat_le limit (offset_in base start) }
 {
     limit <= std::num::wrapping_sub_u64(start, base)
 }
@@ -61,7 +58,7 @@ pub fn is_past(base: u64, limit: u64, start: u64) -> bool
 // In a window that is one, the first byte from `start` on that isn't in it: that at `start`, or else the one behind the window, modulo
 // 2^64.
 pub fn first_outside(base: u64, room: u64, start: u64) -> u64
-    ensures { λ r. ⌜ r ≡ cond (in_window base room start 1) ((base + room) % 2 ^ 64) start ⌝ }
+    ensures { result ≡ (if in_window base room start 1 then (base + room) % 2 ^ 64 else start) }
 {
     if inside(base, room, start, 1) {
         return std::num::wrapping_add_u64(base, room);

@@ -1,14 +1,14 @@
 -- A largest patch: as many runs as there may be, all of one byte but the last, which has what is left. Assumes nothing.
-use mathlib.Core.Path.{_≡_, refl, ap, _∙_}
-use Prim.Native.Nat.{ℕ, zero, suc, _+_, _-_, _*_, _^_, _≤_}
-use mathlib.Core.List.{List, [], _∷_}
+use mathlib.Core.Path.{◌≡◌, refl, ap, ◌∙◌}
+use Prim.Native.Nat.{ℕ, zero, suc, ◌+◌, ◌-◌, ◌*◌, ◌^◌, ◌≤◌}
+use mathlib.Core.List.{List, [], ◌∷◌}
 use native.Mathlib.Omega.{arith}
 use lib.ListN.{length, replicate, length-replicate}
-use Rattle·writes·specs.specs.Sets.{ByteWrite, Run, run, runs, writes_of, payload, Apart}
-use Rattle·writes·specs.specs.Sizes.{max_runs, max_bytes}
-use Rattle·writes·specs.specs.Encoding.{encode, PatchOf}
-use Rattle·writes·proofs.proofs.Fillings.{bytes-replicate}
-use Rattle·writes·proofs.proofs.Runs.{runs-writes_of, ascending-writes_of, payload-writes_of, length-encode}
+use Rattle.writes.specs.Sets.{ByteWrite, Run, run, runs, writes_of, payload, Apart}
+use Rattle.writes.specs.Sizes.{max_runs, max_bytes}
+use Rattle.writes.specs.Encoding.{encode, PatchOf}
+use Rattle.writes.proofs.Fillings.{bytes-replicate}
+use Rattle.writes.proofs.Runs.{runs-writes_of, ascending-writes_of, payload-writes_of, length-encode}
 
 -- k runs of one byte and a last of n, each one address behind the one before
 spaced : ℕ → ℕ → ℕ → List Run

@@ -1,19 +1,19 @@
 -- `write_keys`: keys written in turn. Assumes nothing.
-use mathlib.Core.Path.{_≡_, refl, sym, ap, ap₂, _∙_, subst}
-use Prim.Native.Nat.{ℕ, suc, _+_, _-_, _*_, _≤_, _<_}
-use mathlib.Core.List.{List, [], _∷_}
+use mathlib.Core.Path.{◌≡◌, refl, sym, ap, ap₂, ◌∙◌, subst}
+use Prim.Native.Nat.{ℕ, suc, ◌+◌, ◌-◌, ◌*◌, ◌≤◌, ◌<◌}
+use mathlib.Core.List.{List, [], ◌∷◌}
 use native.Mathlib.Omega.{arith}
 use lib.ListN.{length, get_or}
-use Rattle·writes.specs.Elements.{Element, written}
-use Rattle·endian.specs.Overwriting.{overwritten}
-use Rattle·endian.proofs.Parts.{length-over}
-use Rattle·ordering.specs.Keys.{number_of, entries, Each}
-use Rattle·ordering.proofs.Sorting.{entries-cons, entries-none, entries-all}
-use Rattle·stretches.specs.Stretches.{start_of, Seen, key_of, keys_of}
-use Rattle·stretches.proofs.Keying.{key-start, key-number}
-use Rattle·cutting.specs.Cutting.{part}
-use Rattle·cutting.proofs.Copying.{length-of-part}
-use Rattle·writing·specs.specs.Writing.{put_all, Placed, Held}
+use Rattle.writes.specs.Elements.{Element, written}
+use Rattle.endian.specs.Overwriting.{overwritten}
+use Rattle.endian.proofs.Parts.{length_over}
+use Rattle.ordering.specs.Keys.{number_of, entries, Each}
+use Rattle.ordering.proofs.Sorting.{entries-cons, entries_none, entries-all}
+use Rattle.stretches.specs.Stretches.{start_of, Seen, key_of, keys_of}
+use Rattle.stretches.proofs.Keying.{key-start, key-number}
+use Rattle.cutting.specs.Cutting.{part}
+use Rattle.cutting.proofs.Copying.{length-of-part}
+use Rattle.writing.specs.Writing.{put_all, Placed, Held}
 
 -- the keys from t on are left
 pub record Writing (A : List ℕ) (n step size : ℕ) (stored mem₀ mem : List ℕ) (t : ℕ) : Type 0 where
@@ -36,33 +36,33 @@ module _ (A : List ℕ) (n step size : ℕ) (stored mem₀ : List ℕ) where
   module _ (mem : List ℕ) (t : ℕ) (w : Writing A n step size stored mem₀ mem t) where
     module _ (h : t < n) where
       here : Each (λ k. Placed step size (length mem₀) (length stored) k) (get_or A t 0 ∷ entries A (t + 1) (n - (t + 1)))
-      here = subst (Each (λ k. Placed step size (length mem₀) (length stored) k)) (entries-cons A n t h) (w .placed)
+      here = subst (Each (λ k. Placed step size (length mem₀) (length stored) k)) (entries-cons A n t h) w.placed
 
       -- s, e: the key's offset and number, as the code has them
       pub writing-room : (s e : ℕ) → s ≡ start_of (get_or A t 0) → e ≡ number_of (get_or A t 0)
           → (s + size ≤ length mem) × (e * step + size ≤ length stored)
       writing-room s e es ee =
-          (omega (arith, here .0 .0, w .long), subst (λ (z : ℕ). z * step + size ≤ length stored) (sym ee) (here .0 .1))
+          (omega (arith, here.0.0, w.long), subst (λ (z : ℕ). z * step + size ≤ length stored) (sym ee) here.0.1)
 
-      pub writing-next : (s e : ℕ) (mem′ : List ℕ) → s ≡ start_of (get_or A t 0) → e ≡ number_of (get_or A t 0)
-          → mem′ ≡ overwritten mem s (part stored (e * step) size) → Writing A n step size stored mem₀ mem′ (t + 1)
+      pub writing-next : (s e : ℕ) (mem' : List ℕ) → s ≡ start_of (get_or A t 0) → e ≡ number_of (get_or A t 0)
+          → mem' ≡ overwritten mem s (part stored (e * step) size) → Writing A n step size stored mem₀ mem' (t + 1)
       unfolding put_all
-      writing-next s e mem′ es ee q =
+      writing-next s e mem' es ee q =
           let r = writing-room s e es ee in
           record {
             most = omega arith;
-            long = ap length q ∙ length-over mem s (part stored (e * step) size)
-                (omega (arith, r .0, length-of-part stored (e * step) size (r .1))) ∙ w .long;
-            placed = here .1;
+            long = ap length q ∙ length_over mem s (part stored (e * step) size)
+                (omega (arith, r.0, length-of-part stored (e * step) size r.1)) ∙ w.long;
+            placed = here.1;
             same = ap (put_all step size stored (entries A (t + 1) (n - (t + 1))))
                 (q ∙ ap₂ (λ (y z : ℕ). overwritten mem y (part stored (z * step) size)) es ee)
                 ∙ ap (λ (K : List ℕ). put_all step size stored K mem) (sym (entries-cons A n t h))
-                ∙ w .same;
+                ∙ w.same;
           }
 
     pub writing-done : n ≤ t → mem ≡ put_all step size stored (entries A 0 n) mem₀
     unfolding put_all
-    writing-done h = ap (λ (K : List ℕ). put_all step size stored K mem) (sym (entries-none A n t h)) ∙ w .same
+    writing-done h = ap (λ (K : List ℕ). put_all step size stored K mem) (sym (entries_none A n t h)) ∙ w.same
 
 -- ---- the keys of elements
 
@@ -72,12 +72,12 @@ module _ (W L step size : ℕ) (stored : List ℕ) (o : 1 ≤ size) (i : size �
   unfolding keys_of
   keys-placed f [] s h = tt
   keys-placed f (x ∷ xs) s h =
-      let s2 : W ≤ x .address = s .2 in
-      let s3 : x .address + size ≤ W + L = s .3 in
-      let a = key-start (x .address - W) size (x .number) o i (s .1) in
-      let b = key-number (x .address - W) size (x .number) o i (s .1) in (
-        (omega arith, subst (λ (z : ℕ). z * step + size ≤ length stored) (sym b) (h .1)),
-        keys-placed (suc (x .number)) xs (s .5) (h .2),
+      let s2 : W ≤ x.address = s.2 in
+      let s3 : x.address + size ≤ W + L = s.3 in
+      let a = key-start (x.address - W) size x.number o i s.1 in
+      let b = key-number (x.address - W) size x.number o i s.1 in (
+        (omega arith, subst (λ (z : ℕ). z * step + size ≤ length stored) (sym b) h.1),
+        keys-placed (suc x.number) xs s.5 h.2,
       )
 
   pub keys-written : (f : ℕ) (mem : List ℕ) (es : List Element) → Seen W L size f es → Held step size stored es
@@ -85,9 +85,9 @@ module _ (W L step size : ℕ) (stored : List ℕ) (o : 1 ≤ size) (i : size �
   unfolding keys_of put_all written
   keys-written f mem [] s h = refl
   keys-written f mem (x ∷ xs) s h =
-      let k : ℕ = key_of (x .address - W) size (x .number) in
-      let a = key-start (x .address - W) size (x .number) o i (s .1) in
-      let b = key-number (x .address - W) size (x .number) o i (s .1) in
+      let k : ℕ = key_of (x.address - W) size x.number in
+      let a = key-start (x.address - W) size x.number o i s.1 in
+      let b = key-number (x.address - W) size x.number o i s.1 in
       ap (put_all step size stored (keys_of W size xs))
-      (ap₂ (λ (y z : ℕ). overwritten mem y (part stored (z * step) size)) a b ∙ ap (overwritten mem (x .address - W)) (sym (h .0)))
-      ∙ keys-written (suc (x .number)) (overwritten mem (x .address - W) (x .bytes)) xs (s .5) (h .2)
+      (ap₂ (λ (y z : ℕ). overwritten mem y (part stored (z * step) size)) a b ∙ ap (overwritten mem (x.address - W)) (sym h.0))
+      ∙ keys-written (suc x.number) (overwritten mem (x.address - W) x.bytes) xs s.5 h.2

@@ -1,13 +1,10 @@
 -- Keys' bytes put over memory. For the contracts of the code's own functions. Assumes nothing.
-use Prim.Native.Nat.{ℕ, _+_, _*_, _≤_}
-use mathlib.Core.List.{List, [], _∷_}
-use mathlib.Core.Path.{_≡_}
-use lib.ListN.{length}
-use Rattle·writes.specs.Elements.{Element}
-use Rattle·endian.specs.Overwriting.{overwritten}
-use Rattle·ordering.specs.Keys.{number_of}
-use Rattle·stretches.specs.Stretches.{start_of}
-use Rattle·cutting.specs.Cutting.{part}
+use Rattle.std.specs.Prelude.{ℕ, ◌+◌, ◌*◌, ◌≤◌, List, [], ◌∷◌, ◌≡◌, length}
+use Rattle.writes.specs.Elements.{Element}
+use Rattle.endian.specs.Overwriting.{overwritten}
+use Rattle.ordering.specs.Keys.{number_of}
+use Rattle.stretches.specs.Stretches.{start_of}
+use Rattle.cutting.specs.Cutting.{part}
 
 -- the keys' bytes, out of a register whose elements are `step` bytes apart, put over memory in turn
 unfoldable pub put_all : ℕ → ℕ → List ℕ → List ℕ → List ℕ → List ℕ
@@ -22,4 +19,4 @@ Placed step size L N k = (start_of k + size ≤ L) × (number_of k * step + size
 abbrev pub Held : ℕ → ℕ → List ℕ → List Element → Type 0
 Held step size stored [] = Unit {0}
 Held step size stored (x ∷ xs) =
-    (x .bytes ≡ part stored (x .number * step) size) × (x .number * step + size ≤ length stored) × Held step size stored xs
+    (x.bytes ≡ part stored (x.number * step) size) × (x.number * step + size ≤ length stored) × Held step size stored xs

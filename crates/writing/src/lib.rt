@@ -1,16 +1,14 @@
 // The elements of a scatter or quadword store, written in the order of their keys.
-ghost use mathlib.Core.Path.{_≡_};
-ghost use mathlib.Core.Bool.{true};
-ghost use Prim.Native.Nat.{_*_, _<_, _≤_};
-ghost use lib.ListN.{length};
-ghost use Rattle·elements.specs.Accesses.{is_width};
-ghost use Rattle·ordering.specs.Keys.{number_of, entries, Each};
-ghost use Rattle·writing·specs.specs.Writing.{put_all, Placed};
+ghost use Rattle.std.specs.Prelude.{◌≡◌, true, ◌*◌, ◌<◌, ◌≤◌, length};
+ghost use Rattle.elements.specs.Accesses.{is_width};
+ghost use Rattle.ordering.specs.Keys.{number_of, entries, Each};
+ghost use Rattle.writing.specs.Writing.{put_all, Placed};
+
 use elements::Counts;
 
 // The number of a key's element.
 fn number_of(k: u32) -> usize
-    ensures { λ r. ⌜ (r ≡ number_of k) × (r < 256) ⌝ }
+    ensures { (result ≡ number_of k) × (result < 256) }
 {
     (k % 256) as usize
 }
@@ -24,11 +22,10 @@ pub fn write_keys(
     stored: &[u8],
     memory: &mut [u8],
 ) -> Counts
-    requires { ⌜ (n ≤ length (now keys)) × (n ≤ 64) × (size ≤ 256) ⌝ }
-    requires { ⌜ Each (λ k. Placed step size (length (now memory)) (length (now stored)) k) (entries (now keys) 0 n) ⌝ }
-    ensures { λ r. ⌜ (r .elements ≡ n) × (r .bytes ≡ n * size) ⌝ }
-    ensures { λ _.
-        ⌜ now (memory .exit) ≡ put_all step size (now (stored .entry)) (entries (now (keys .entry)) 0 n) (now (memory .entry)) ⌝ }
+    requires n_in_bounds { (n ≤ length keys.now) × (n ≤ 64) × (size ≤ 256) }
+    requires each { Each (λ k. Placed step size (length memory.old) (length stored.now) k) (entries keys.now 0 n) }
+    ensures elements_value { (result.elements ≡ n) × (result.bytes ≡ n * size) }
+    ensures memory_after { memory.new ≡ put_all step size stored.now (entries keys.now 0 n) memory.old }
 {
     let mut elements: u64 = 0;
     let mut bytes: u64 = 0;
@@ -56,12 +53,11 @@ pub fn write_vector(
     stored: &[u8],
     memory: &mut [u8],
 ) -> Counts
-    requires { ⌜ (n ≤ length (now keys)) × (n ≤ 64) × (size ≤ 256) ⌝ }
-    requires { ⌜ (is_width size ≡ true) × (size ≡ 8 → step ≡ 8) × (size ≡ 16 → step ≡ 16) ⌝ }
-    requires { ⌜ Each (λ k. Placed step size (length (now memory)) (length (now stored)) k) (entries (now keys) 0 n) ⌝ }
-    ensures { λ r. ⌜ (r .elements ≡ n) × (r .bytes ≡ n * size) ⌝ }
-    ensures { λ _.
-        ⌜ now (memory .exit) ≡ put_all step size (now (stored .entry)) (entries (now (keys .entry)) 0 n) (now (memory .entry)) ⌝ }
+    requires n_in_bounds { (n ≤ length keys.now) × (n ≤ 64) × (size ≤ 256) }
+    requires size_value { (is_width size ≡ true) × (size ≡ 8 → step ≡ 8) × (size ≡ 16 → step ≡ 16) }
+    requires each { Each (λ k. Placed step size (length memory.old) (length stored.now) k) (entries keys.now 0 n) }
+    ensures elements_value { (result.elements ≡ n) × (result.bytes ≡ n * size) }
+    ensures memory_after { memory.new ≡ put_all step size stored.now (entries keys.now 0 n) memory.old }
 {
     if size == 8 {
         return write_keys(keys, n, 8, 8, stored, memory);

@@ -1,8 +1,8 @@
 -- The five. Assumes nothing.
 use mathlib.Core.Path.{refl}
-use Rattle·verdicts.specs.Verdicts.{one_of_five}
-use Rattle·conditions·proofs.proofs.one_of_five.Statement.{statement}
-use Rattle·conditions·proofs.proofs.one_of_five.Tie as tie
+use Rattle.verdicts.specs.Verdicts.{one_of_five}
+use Rattle.conditions.proofs.one_of_five.Statement.{statement}
+use Rattle.conditions.proofs.one_of_five.Tie as tie
 
 returns : tie.Need-returns
 unfolding one_of_five

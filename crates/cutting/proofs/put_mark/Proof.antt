@@ -1,22 +1,22 @@
 -- `put_mark`: its two bytes. Assumes nothing.
 use native.Mathlib.Omega.{arith}
 use lib.ListN.{length-set}
-use Rattle·endian.proofs.Putting.{two-put}
-use borrow.Author.Needs.{needs}
-use Rattle·cutting·proofs.proofs.put_mark.Statement.{statement}
-use Rattle·cutting·proofs.proofs.put_mark.Tie as tie
+use Rattle.endian.proofs.Putting.{two-put}
+use borrow.Author.Rules.{rules}
+use Rattle.cutting.proofs.put_mark.Statement.{statement}
+use Rattle.cutting.proofs.put_mark.Tie as tie
 
 slice-write-out : tie.Need-slice-write-out
 slice-write-out c = omega arith
 
-add-out : tie.Need-add-out
+add-out : tie.Need-overflow-add-out
 add-out c = omega arith
 
 slice-write-out-2 : tie.Need-slice-write-out-2
 slice-write-out-2 c = simp length-set (omega arith)
 
-same-length : tie.Need-same-length
-same-length c = search needs
+same_length : tie.Need-same-length
+same_length c = search rules
 
 returns : tie.Need-returns
 returns c = two-put _ _ _ _ (omega arith)
@@ -28,5 +28,5 @@ put-mark-spec =
     slice-write-out
     add-out
     slice-write-out-2
-    same-length
+    same_length
     returns)

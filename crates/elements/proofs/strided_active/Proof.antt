@@ -1,14 +1,13 @@
 -- `strided_active`: a multiple of the gap, and the range test. No loop. Assumes nothing.
-use mathlib.Core.Path.{refl}
-use native.Mathlib.Omega.{arith}
-use Rattle·elements·specs.specs.Accesses.{between, strided_active}
-use Rattle·elements·proofs.proofs.strided_active.Statement.{statement}
-use Rattle·elements·proofs.proofs.strided_active.Tie as tie
+use Rattle.std.proofs.Common.{refl, arith}
+use Rattle.elements.specs.Accesses.{between, strided_active}
+use Rattle.elements.proofs.strided_active.Statement.{statement}
+use Rattle.elements.proofs.strided_active.Tie as tie
 
-div-k : tie.Need-div-k
+div-k : tie.Need-nonzero-div-k
 div-k c = omega arith
 
-rem-result : tie.Need-rem-result
+rem-result : tie.Need-nonzero-rem-result
 rem-result c = omega arith
 
 returns : tie.Need-returns

@@ -1,18 +1,18 @@
 -- `vector_address`: by the index of its offset. No loop. Assumes nothing.
-use Rattle·elements·specs.specs.Accesses.{vector_address}
-use borrow.Author.Needs.{needs}
-use Rattle·elements·proofs.proofs.vector_address.Statement.{statement}
-use Rattle·elements·proofs.proofs.vector_address.Tie as tie
+use Rattle.elements.specs.Accesses.{vector_address}
+use Rattle.std.proofs.Common.{rules}
+use Rattle.elements.proofs.vector_address.Statement.{statement}
+use Rattle.elements.proofs.vector_address.Tie as tie
 
-mul-address-from : tie.Need-mul-address-from
-mul-address-from c = search needs
+mul-address-from : tie.Need-overflow-mul-address-from
+mul-address-from c = search rules
 
 address-from-requires : tie.Need-address-from-requires
-address-from-requires c κs = search needs
+address-from-requires c κs = search rules
 
 returns : tie.Need-returns
 unfolding vector_address
-returns c = c .address-from .ensures
+returns c = c.address-from.ensures
 
 pub vector-address-spec : {M : Type 1} → statement M
 vector-address-spec = tie.close (tie.spec mul-address-from address-from-requires returns)

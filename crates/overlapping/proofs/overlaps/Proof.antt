@@ -1,12 +1,12 @@
 -- `overlaps`: nothing is looked at unless strict is on. Assumes nothing.
-use mathlib.Core.Path.{_≡_, refl}
-use mathlib.Core.Bool.{Bool, true, false, not, _&&_}
-use borrow.Author.Needs.{needs}
-use Rattle·endian.proofs.Order.{absurdly}
-use Rattle·ordering.specs.Keys.{entries}
-use Rattle·overlapping·specs.specs.Overlaps.{parted}
-use Rattle·overlapping·proofs.proofs.overlaps.Statement.{statement}
-use Rattle·overlapping·proofs.proofs.overlaps.Tie as tie
+use mathlib.Core.Path.{◌≡◌, refl}
+use mathlib.Core.Bool.{Bool, true, false, not, ◌&&◌}
+use borrow.Author.Rules.{rules}
+use Rattle.endian.proofs.Order.{absurdly}
+use Rattle.ordering.specs.Keys.{entries}
+use Rattle.overlapping.specs.Overlaps.{parted}
+use Rattle.overlapping.proofs.overlaps.Statement.{statement}
+use Rattle.overlapping.proofs.overlaps.Tie as tie
 
 -- with the flag off, and with it on
 off : (s b : Bool) → not s ≡ true → false ≡ s && b
@@ -19,17 +19,17 @@ on false b r e q = absurdly cc
 
 returns : tie.Need-returns
 returns c =
-    let a = c .before .before .args in
-    off (a .strict) (not (parted 0 (entries (a .stretches .now) 0 (a .m)))) (c .if1 .taken)
+    let a = c.before.before.args in
+    off a.strict (not (parted 0 (entries a.stretches.now 0 a.m))) c.if1.true
 
 some-overlap-requires : tie.Need-some-overlap-requires
-some-overlap-requires c κs = search needs
+some-overlap-requires c κs = search rules
 
 returns-2 : tie.Need-returns-2
 returns-2 c =
-    let a = c .before .before .before .args in
-    on (a .strict) (not (parted 0 (entries (a .stretches .now) 0 (a .m)))) (c .some-overlap .result) (c .before .if1 .left)
-    (c .some-overlap .ensures)
+    let a = c.before.before.before.args in
+    on a.strict (not (parted 0 (entries a.stretches.now 0 a.m))) c.some-overlap.result c.before.if1.false
+    c.some-overlap.ensures
 
 pub overlaps-spec : {M : Type 1} → statement M
 overlaps-spec =

@@ -1,9 +1,8 @@
 -- `inside`: the test of some bytes against the window, by comparisons that stay below 2^64. Assumes nothing.
-use mathlib.Core.Path.{sym}
-use native.Mathlib.Omega.{arith}
-use Rattle·window·proofs.proofs.Windows.{in-window, not-in-window}
-use Rattle·window·proofs.proofs.inside.Statement.{statement}
-use Rattle·window·proofs.proofs.inside.Tie as tie
+use Rattle.std.proofs.Common.{sym, arith}
+use Rattle.window.proofs.Windows.{in-window, not-in-window}
+use Rattle.window.proofs.inside.Statement.{statement}
+use Rattle.window.proofs.inside.Tie as tie
 
 returns : tie.Need-returns
 returns c = sym (not-in-window _ _ _ _ (λ h. omega arith))

@@ -1,10 +1,8 @@
 -- `window_ok`: the window's test, by comparisons that stay below 2^64. Assumes nothing.
-use borrow.Author.Needs.{needs}
-use mathlib.Core.Path.{sym}
-use native.Mathlib.Omega.{arith}
-use Rattle·window·proofs.proofs.Windows.{window-true, window-false}
-use Rattle·window·proofs.proofs.window_ok.Statement.{statement}
-use Rattle·window·proofs.proofs.window_ok.Tie as tie
+use Rattle.std.proofs.Common.{sym, arith, rules}
+use Rattle.window.proofs.Windows.{window-true, window-false}
+use Rattle.window.proofs.window_ok.Statement.{statement}
+use Rattle.window.proofs.window_ok.Tie as tie
 
 returns : tie.Need-returns
 returns c = sym (window-false _ _ (λ h. omega arith))
@@ -12,11 +10,11 @@ returns c = sym (window-false _ _ (λ h. omega arith))
 returns-2 : tie.Need-returns-2
 returns-2 c = sym (window-true _ _ (omega arith) (omega arith))
 
-sub-if3 : tie.Need-sub-if3
-sub-if3 c = search needs
+sub-if3 : tie.Need-overflow-sub-if3
+sub-if3 c = search rules
 
-sub-if3-2 : tie.Need-sub-if3-2
-sub-if3-2 c = search needs
+sub-if3-2 : tie.Need-overflow-sub-if3-2
+sub-if3-2 c = search rules
 
 returns-3 : tie.Need-returns-3
 returns-3 c = sym (window-false _ _ (λ h. omega arith))

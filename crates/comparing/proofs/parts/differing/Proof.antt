@@ -1,61 +1,61 @@
 -- `differing`: the loop over the addresses. Invariant: those so far, and those to come. Assumes nothing.
-use mathlib.Core.Path.{sym, _∙_}
-use Prim.Native.Nat.{_-_}
+use mathlib.Core.Path.{sym, ◌∙◌}
+use Prim.Native.Nat.{◌-◌}
 use native.Mathlib.Omega.{arith}
-use Rattle·comparing·proofs.proofs.Zipping.{Counting, counting-first, counting-same, counting-other, counting-last}
-use borrow.Author.Needs.{needs}
-use Rattle·comparing·proofs.proofs.parts.differing.Statement.{statement}
-use Rattle·comparing·proofs.proofs.parts.differing.Tie as tie
+use Rattle.comparing.proofs.Zipping.{Counting, counting-first, counting-same, counting-other, counting-last}
+use borrow.Author.Rules.{rules}
+use Rattle.comparing.proofs.parts.differing.Statement.{statement}
+use Rattle.comparing.proofs.parts.differing.Tie as tie
 
-abbrev Inv-loop : tie.InvT-loop
-Inv-loop p q len i₀ n₀ i n = Counting p q len i n
+abbrev invariant-loop : tie.invariant-loop
+invariant-loop p q len i₀ n₀ i n = Counting p q len i n
 
-abbrev μ-loop : tie.MeasureT-loop
-μ-loop p q len i₀ n₀ i n = len - i
+abbrev decreases-loop : tie.decreases-loop
+decreases-loop p q len i₀ n₀ i n = len - i
 
-loop-holds : tie.Need-loop-holds Inv-loop μ-loop
-loop-holds c = counting-first _ _ _ (c .before .before .pre)
+loop-holds : tie.Need-loop-init invariant-loop decreases-loop
+loop-holds c = counting-first _ _ _ c.before.before.requires
 
-side-requires : tie.Need-side-requires Inv-loop μ-loop
-side-requires c κs = search needs
+side-requires : tie.Need-side-requires invariant-loop decreases-loop
+side-requires c κs = search rules
 
-side-requires-2 : tie.Need-side-requires-2 Inv-loop μ-loop
-side-requires-2 c κs = search needs
+side-requires-2 : tie.Need-side-requires-2 invariant-loop decreases-loop
+side-requires-2 c κs = search rules
 
-add-i : tie.Need-add-i Inv-loop μ-loop
-add-i c = omega (arith, c .before .before .before .loop-test .taken)
+add-i : tie.Need-overflow-add-i invariant-loop decreases-loop
+add-i c = omega (arith, c.before.before.before.loop-test.true)
 
-loop-less : tie.Need-loop-less Inv-loop μ-loop
-loop-less c = omega (arith, c .before .before .before .loop-test .taken)
+loop-less : tie.Need-loop-smaller invariant-loop decreases-loop
+loop-less c = omega (arith, c.before.before.before.loop-test.true)
 
-loop-again : tie.Need-loop-again Inv-loop μ-loop
+loop-again : tie.Need-loop-preserved invariant-loop decreases-loop
 loop-again c =
-    let k = c .before .before in
-    counting-same _ _ _ _ _ (k .before .before .loop .inv) (sym (k .side .ensures) ∙ c .if1 .taken ∙ c .before .side2 .ensures)
+    let k = c.before.before in
+    counting-same _ _ _ _ _ k.before.before.loop.invariant (sym k.side.ensures ∙ c.if1.true ∙ c.before.side2.ensures)
 
-add-n : tie.Need-add-n Inv-loop μ-loop
-add-n c = omega (arith, c .before .before .before .loop-test .taken, c .before .before .before .before .loop .inv .most)
+add-n : tie.Need-overflow-add-n invariant-loop decreases-loop
+add-n c = omega (arith, c.before.before.before.loop-test.true, c.before.before.before.before.loop.invariant.most)
 
-add-i-2 : tie.Need-add-i-2 Inv-loop μ-loop
-add-i-2 c = omega (arith, c .before .before .before .loop-test .taken)
+add-i-2 : tie.Need-overflow-add-i-2 invariant-loop decreases-loop
+add-i-2 c = omega (arith, c.before.before.before.loop-test.true)
 
-loop-less-2 : tie.Need-loop-less-2 Inv-loop μ-loop
-loop-less-2 c = omega (arith, c .before .before .before .loop-test .taken)
+loop-less-2 : tie.Need-loop-smaller-2 invariant-loop decreases-loop
+loop-less-2 c = omega (arith, c.before.before.before.loop-test.true)
 
-loop-again-2 : tie.Need-loop-again-2 Inv-loop μ-loop
+loop-again-2 : tie.Need-loop-preserved-2 invariant-loop decreases-loop
 loop-again-2 c =
-    let k = c .before .before in
-    counting-other _ _ _ _ _ (k .before .before .loop .inv) (λ e. c .if1 .left (k .side .ensures ∙ e ∙ sym (c .before .side2 .ensures)))
+    let k = c.before.before in
+    counting-other _ _ _ _ _ k.before.before.loop.invariant (λ e. c.if1.false (k.side.ensures ∙ e ∙ sym c.before.side2.ensures))
 
-returns : tie.Need-returns Inv-loop μ-loop
-returns c = counting-last _ _ _ _ _ (c .before .loop .inv) (c .loop-test .left)
+returns : tie.Need-returns invariant-loop decreases-loop
+returns c = counting-last _ _ _ _ _ c.before.loop.invariant c.loop-test.false
 
 pub differing-spec : {M : Type 1} → statement M
 differing-spec =
     tie.close
     (tie.spec
-    Inv-loop
-    μ-loop
+    invariant-loop
+    decreases-loop
     loop-holds
     side-requires
     side-requires-2

@@ -1,80 +1,77 @@
 -- `runs`: heads and bytes put run by run. Invariant: index and start grow with the number of runs. Assumes nothing.
-use Prim.Native.Nat.{_+_, _-_, _*_, _≤_}
-use lib.ListN.{length}
-use mathlib.Core.Path.{_≡_}
-use borrow.Author.Needs.{needs}
-use Rattle·edges·proofs.proofs.large.runs.Statement.{statement}
-use Rattle·edges·proofs.proofs.large.runs.Tie as tie
+use Rattle.std.proofs.Common.{◌≡◌, ◌+◌, ◌-◌, ◌*◌, ◌≤◌, length, rules}
+use Rattle.edges.proofs.large.runs.Statement.{statement}
+use Rattle.edges.proofs.large.runs.Tie as tie
 
-abbrev Inv-loop : tie.InvT-loop
-Inv-loop s₀ n len at₀ start₀ k₀ s at start k = (k ≤ n) × (at ≤ 14 * k) × (start ≤ 8192 + 3 * k) × (length s ≡ length s₀)
+abbrev invariant-loop : tie.invariant-loop
+invariant-loop s₀ n len at₀ start₀ k₀ s at start k = (k ≤ n) × (at ≤ 14 * k) × (start ≤ 8192 + 3 * k) × (length s ≡ length s₀)
 
-abbrev μ-loop : tie.MeasureT-loop
-μ-loop s₀ n len at₀ start₀ k₀ s at start k = n - k
+abbrev decreases-loop : tie.decreases-loop
+decreases-loop s₀ n len at₀ start₀ k₀ s at start k = n - k
 
-loop-holds : tie.Need-loop-holds Inv-loop μ-loop
-loop-holds c = search needs
+loop-holds : tie.Need-loop-init invariant-loop decreases-loop
+loop-holds c = search rules
 
-head-requires : tie.Need-head-requires Inv-loop μ-loop
-head-requires c κs = search needs
+head-requires : tie.Need-head-requires invariant-loop decreases-loop
+head-requires c κs = search rules
 
-add-fill : tie.Need-add-fill Inv-loop μ-loop
-add-fill c = search needs
+add-fill : tie.Need-overflow-add-fill invariant-loop decreases-loop
+add-fill c = search rules
 
-cast-fill : tie.Need-cast-fill Inv-loop μ-loop
-cast-fill c = search needs
+cast-fill : tie.Need-overflow-cast-fill invariant-loop decreases-loop
+cast-fill c = search rules
 
-fill-requires : tie.Need-fill-requires Inv-loop μ-loop
-fill-requires c κs = search needs
+fill-requires : tie.Need-fill-requires invariant-loop decreases-loop
+fill-requires c κs = search rules
 
-add-at : tie.Need-add-at Inv-loop μ-loop
-add-at c = search needs
+add_at : tie.Need-overflow-add-at invariant-loop decreases-loop
+add_at c = search rules
 
-add-at-2 : tie.Need-add-at-2 Inv-loop μ-loop
-add-at-2 c = search needs
+add-at-2 : tie.Need-overflow-add-at-2 invariant-loop decreases-loop
+add-at-2 c = search rules
 
-add-start : tie.Need-add-start Inv-loop μ-loop
-add-start c = search needs
+add_start : tie.Need-overflow-add-start invariant-loop decreases-loop
+add_start c = search rules
 
-add-start-2 : tie.Need-add-start-2 Inv-loop μ-loop
-add-start-2 c = search needs
+add-start-2 : tie.Need-overflow-add-start-2 invariant-loop decreases-loop
+add-start-2 c = search rules
 
-add-k : tie.Need-add-k Inv-loop μ-loop
-add-k c = search needs
+add-k : tie.Need-overflow-add-k invariant-loop decreases-loop
+add-k c = search rules
 
-loop-less : tie.Need-loop-less Inv-loop μ-loop
-loop-less c = search needs
+loop-less : tie.Need-loop-smaller invariant-loop decreases-loop
+loop-less c = search rules
 
-loop-again : tie.Need-loop-again Inv-loop μ-loop
-loop-again c = search needs
+loop-again : tie.Need-loop-preserved invariant-loop decreases-loop
+loop-again c = search rules
 
-trailer-requires : tie.Need-trailer-requires Inv-loop μ-loop
-trailer-requires c κs = search needs
+trailer-requires : tie.Need-trailer-requires invariant-loop decreases-loop
+trailer-requires c κs = search rules
 
-same-length : tie.Need-same-length Inv-loop μ-loop
-same-length c = search needs
+same_length : tie.Need-same-length invariant-loop decreases-loop
+same_length c = search rules
 
-returns : tie.Need-returns Inv-loop μ-loop
-returns c = search needs
+returns : tie.Need-returns invariant-loop decreases-loop
+returns c = search rules
 
 pub runs-spec : {M : Type 1} → statement M
 runs-spec =
     tie.close
     (tie.spec
-    Inv-loop
-    μ-loop
+    invariant-loop
+    decreases-loop
     loop-holds
     head-requires
     add-fill
     cast-fill
     fill-requires
-    add-at
+    add_at
     add-at-2
-    add-start
+    add_start
     add-start-2
     add-k
     loop-less
     loop-again
     trailer-requires
-    same-length
+    same_length
     returns)

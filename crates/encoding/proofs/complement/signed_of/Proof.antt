@@ -1,28 +1,28 @@
 -- `complement::signed_of`: the other bits twice are the bits. Assumes nothing.
-use mathlib.Core.Path.{_≡_, ap}
-use Prim.Native.Nat.{_-_}
+use mathlib.Core.Path.{◌≡◌, ap}
+use Prim.Native.Nat.{◌-◌}
 use native.Mathlib.Omega.{arith}
 use mir.Syntax.{w64}
 use mir.Val.{to_z}
-use borrow.Author.Needs.{needs}
-use Rattle·encoding·proofs.proofs.complement.signed_of.Statement.{statement}
-use Rattle·encoding·proofs.proofs.complement.signed_of.Tie as tie
+use borrow.Author.Rules.{rules}
+use Rattle.encoding.proofs.complement.signed_of.Statement.{statement}
+use Rattle.encoding.proofs.complement.signed_of.Tie as tie
 
-cast-result : tie.Need-cast-result
-cast-result c = search needs
+cast-result : tie.Need-overflow-cast-result
+cast-result c = search rules
 
-sub-result : tie.Need-sub-result
-sub-result c = search needs
+sub-result : tie.Need-overflow-sub-result
+sub-result c = search rules
 
-cast-result-2 : tie.Need-cast-result-2
-cast-result-2 c = search needs
+cast-result-2 : tie.Need-overflow-cast-result-2
+cast-result-2 c = search rules
 
 returns : tie.Need-returns
-returns c = search needs
+returns c = search rules
 
 returns-2 : tie.Need-returns-2
 returns-2 c =
-    let b = c .before .args .bits in
+    let b = c.before.args.bits in
     let e : 18446744073709551615 - (18446744073709551615 - b) ≡ b = omega arith in
     ap (to_z w64) e
 

@@ -1,21 +1,21 @@
 -- `table::packed`: the row whose last two digits are the class's number is its own. Invariant: no row before i is. Assumes nothing.
-use mathlib.Core.Path.{_≡_, ap, _∙_}
-use Prim.Native.Nat.{ℕ, suc, _+_, _%_, _-_, _≤_, _<_}
+use mathlib.Core.Path.{◌≡◌, ap, ◌∙◌}
+use Prim.Native.Nat.{ℕ, suc, ◌+◌, ◌%◌, ◌-◌, ◌≤◌, ◌<◌}
 use native.Mathlib.Omega.{arith}
 use lib.ListN.{length, get_or}
-use Rattle·encoding·specs.specs.Classes.{classes, class_at, any, has}
-use Rattle·encoding·specs.specs.Encoding.{lowest}
-use Rattle·encoding·specs.specs.Layouts.{packed_of}
-use Rattle·encoding·proofs.proofs.Rows.{column, column-at, packed-number}
-use borrow.Author.Needs.{needs}
-use Rattle·encoding·proofs.proofs.table.packed.Statement.{statement}
-use Rattle·encoding·proofs.proofs.table.packed.Tie as tie
+use Rattle.encoding.specs.Classes.{classes, class_at, any, has}
+use Rattle.encoding.specs.Encoding.{lowest}
+use Rattle.encoding.specs.Layouts.{packed_of}
+use Rattle.encoding.proofs.Rows.{column, column-at, packed-number}
+use borrow.Author.Rules.{rules}
+use Rattle.encoding.proofs.table.packed.Statement.{statement}
+use Rattle.encoding.proofs.table.packed.Tie as tie
 
-abbrev Inv-loop : tie.InvT-loop
-Inv-loop k rows i₀ i = i ≤ k
+abbrev invariant-loop : tie.invariant-loop
+invariant-loop k rows i₀ i = i ≤ k
 
-abbrev μ-loop : tie.MeasureT-loop
-μ-loop k rows i₀ i = length classes - i
+abbrev decreases-loop : tie.decreases-loop
+decreases-loop k rows i₀ i = length classes - i
 
 -- a class's number is one more than its row
 numbered : (i : ℕ) → i < length classes → get_or (column packed_of) i 0 % 256 ≡ suc i
@@ -33,39 +33,39 @@ other k i h l f =
     let n : i ≡ k → ⊥ = λ q. f (omega (arith, numbered i h, q)) in
     omega arith
 
-loop-holds : tie.Need-loop-holds Inv-loop μ-loop
-loop-holds c = search needs
+loop-holds : tie.Need-loop-init invariant-loop decreases-loop
+loop-holds c = search rules
 
-mul-n : tie.Need-mul-n Inv-loop μ-loop
+mul-n : tie.Need-overflow-mul-n invariant-loop decreases-loop
 unfolding classes
-mul-n c = search needs
+mul-n c = search rules
 
-array-read-n : tie.Need-array-read-n Inv-loop μ-loop
+array-read-n : tie.Need-array-read-n invariant-loop decreases-loop
 unfolding classes
-array-read-n c = search needs
+array-read-n c = search rules
 
-add-if1 : tie.Need-add-if1 Inv-loop μ-loop
+add-if1 : tie.Need-overflow-add-if1 invariant-loop decreases-loop
 unfolding classes
-add-if1 c = search needs
+add-if1 c = search rules
 
-returns : tie.Need-returns Inv-loop μ-loop
+returns : tie.Need-returns invariant-loop decreases-loop
 unfolding classes column packed_of any has lowest
-returns c = own (c .before .before .before .args .k) (c .before .before .loop .i) (omega arith) (c .if1 .taken)
+returns c = own c.before.before.before.args.k c.before.before.loop.i (omega arith) c.if1.true
 
-add-i : tie.Need-add-i Inv-loop μ-loop
+add-i : tie.Need-overflow-add-i invariant-loop decreases-loop
 unfolding classes
-add-i c = search needs
+add-i c = search rules
 
-loop-less : tie.Need-loop-less Inv-loop μ-loop
+loop-less : tie.Need-loop-smaller invariant-loop decreases-loop
 unfolding classes
 loop-less c = omega arith
 
-loop-again : tie.Need-loop-again Inv-loop μ-loop
+loop-again : tie.Need-loop-preserved invariant-loop decreases-loop
 unfolding classes column packed_of any has lowest
 loop-again c =
-    other (c .before .before .before .args .k) (c .before .before .loop .i) (omega arith) (c .before .before .loop .inv) (c .if1 .left)
+    other c.before.before.before.args.k c.before.before.loop.i (omega arith) c.before.before.loop.invariant c.if1.false
 
-returns-2 : tie.Need-returns-2 Inv-loop μ-loop
+returns-2 : tie.Need-returns-2 invariant-loop decreases-loop
 unfolding classes
 returns-2 c = absurd (omega arith)
 
@@ -73,8 +73,8 @@ pub packed-spec : {M : Type 1} → statement M
 packed-spec =
     tie.close
     (tie.spec
-    Inv-loop
-    μ-loop
+    invariant-loop
+    decreases-loop
     loop-holds
     mul-n
     array-read-n
