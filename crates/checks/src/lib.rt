@@ -1,4 +1,6 @@
 // Checks 1 to 6 of a store over a lent machine and a window.
+#![tactic(auto)]
+
 mod stores;
 
 ghost use Rattle.std.specs.Prelude.{◌≡◌};
@@ -10,7 +12,7 @@ use encoding::Decoded;
 use verdicts::{Flags, Refusal};
 
 // What checks 1 to 6 answer: the refusal that is due, or what the store's elements have in common.
-#[derive(Drop)]
+#[derive(Clone, Copy)]
 pub enum Checked {
     Refused { refusal: Refusal },
     Vector { access: VectorAccess },

@@ -1,5 +1,7 @@
 // Decoded stores as eight numbers, and back: class, Zm or Rm, extension, Pg or Pc, Rn or Zn, Zt or first register, the signed
 // multiple in two's complement, zero.
+#![tactic(auto)]
+
 ghost use Rattle.std.specs.Prelude.{◌≡◌, ◌<◌, [], ◌∷◌};
 ghost use Rattle.encoding.specs.declared.Feature.TheVariants.{SVE, SME2, SVE2p1};
 ghost use Rattle.encoding.specs.Answers.{extension_number, store_numbers};

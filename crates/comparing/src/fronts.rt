@@ -7,7 +7,7 @@ use reading::{Cursor, Step};
 
 // What is left of a run: the address of its next byte, that byte's index and how many there are; and the cursor behind the run. With
 // none left there is no run behind it.
-#[derive(Drop)]
+#[derive(Clone, Copy)]
 pub struct Front {
     pub address: u64,
     pub at: usize,
@@ -16,7 +16,7 @@ pub struct Front {
 }
 
 // The next `len` addresses, from `address` on: how many of the first's bytes and of the second's stand there, all or none.
-#[derive(Drop)]
+#[derive(Clone, Copy)]
 pub struct Stretch {
     pub address: u64,
     pub len: usize,

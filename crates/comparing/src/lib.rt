@@ -1,4 +1,6 @@
 // Comparing two patches (document 02 (v)): both are walked side by side through readers, run by run.
+#![tactic(auto)]
+
 mod fronts;
 mod parts;
 
@@ -16,7 +18,7 @@ use reading::Cursor;
 
 // What comparing answers: done with the number of entries, verdict 8 with the number of entries needed, or verdict 9 and which of the
 // two strings is no patch, the first when both aren't.
-#[derive(Drop)]
+#[derive(Clone, Copy)]
 pub enum Compared {
     Done { entries: usize },
     NoRoom { needed: usize },

@@ -1,4 +1,6 @@
 // The tests of verdicts 1, 4, 5 and 6, each by what it looks at.
+#![tactic(auto)]
+
 ghost use Rattle.std.specs.Prelude.{◌≡◌, not, List};
 ghost use Rattle.writes.specs.Elements.{Element};
 ghost use Rattle.verdicts.specs.Verdicts.{one_of_five, length_ok, flag_on, illegal, some_active, stack};

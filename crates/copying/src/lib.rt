@@ -1,4 +1,6 @@
 // A strided store's active elements, copied one by one out of their registers to memory.
+#![tactic(auto)]
+
 ghost use Rattle.std.specs.Prelude.{◌≡◌, ◌+◌, ◌-◌, ◌*◌, ◌≤◌, ◌<◌, length};
 ghost use Rattle.elements.specs.Machine.{register};
 ghost use Rattle.elements.specs.Accesses.{StridedSound};

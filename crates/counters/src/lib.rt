@@ -1,4 +1,6 @@
 // A strided store's counter: which elements are active under it.
+#![tactic(auto)]
+
 ghost use Rattle.std.specs.Prelude.{◌≡◌, false, [], ◌+◌, ◌-◌, ◌*◌, ◌^◌, ◌≤◌, ◌<◌, length};
 ghost use Rattle.encoding.specs.Encoding.{class_for, refused};
 ghost use Rattle.elements.specs.Machine.{machine};

@@ -1,4 +1,6 @@
 // The patch of stretches in ascending order: heads and trailer, with payloads copied from the memory that was written.
+#![tactic(auto)]
+
 ghost use Rattle.std.specs.Prelude.{◌≡◌, [], ◌∷◌, ◌++◌, ◌+◌, ◌-◌, ◌%◌, ◌^◌, ◌<◌, ◌≤◌, length};
 ghost use Rattle.endian.specs.LittleEndian.{le_bytes};
 ghost use Rattle.writes.specs.Encoding.{trailer, encode_runs};
@@ -140,7 +142,7 @@ pub fn compose_one(w: u64, a: usize, n: usize, memory: &[u8], out: &mut [u8]) ->
 }
 
 // A patch's length, and how many steps it took.
-#[derive(Drop)]
+#[derive(Clone, Copy)]
 pub struct Composed {
     pub length: usize,
     pub steps: usize,

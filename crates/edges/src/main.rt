@@ -1,5 +1,7 @@
 // Document 01's patches and damaged ones, judged and applied, and its other cases at the edges, run. Each line is one call and its
 // answer; stdout holds what is expected.
+#![tactic(auto)]
+
 mod large;
 mod stores;
 

@@ -1,5 +1,7 @@
 // The elements of a store on a lent machine. What a store's elements have in common is decided once, in an
 // access; they are then read by number.
+#![tactic(auto)]
+
 ghost use Rattle.std.specs.Prelude.{◌≡◌, ◌+◌, ◌-◌, ◌*◌, ◌/◌, ◌%◌, ◌^◌, ◌<◌, ◌≤◌, false, [], length, pos, ◌*ℤ◌, if◌then◌else◌, nat_eq, slice_index, unsigned_abs};
 ghost use Rattle.std.specs.Int.{w64};
 ghost use Rattle.std.proofs.Common.{of_z};
@@ -16,7 +18,7 @@ use encoding::{Extension, Number, QuadwordFields, ScatterFields, Store, StridedF
 // A scatter or quadword store: offset and base of each address, bytes from element to element, bytes to move, the elements' number,
 // and the registers with the offsets, the predicate and the data. The one-byte field comes first, where a refusal's tag lies in
 // `Checked`: eight bytes there would be stored in pieces and read late.
-#[derive(Drop)]
+#[derive(Clone, Copy)]
 pub struct VectorAccess {
     pub extension: Extension,
     pub scale: u32,
@@ -32,7 +34,7 @@ pub struct VectorAccess {
 // A strided store. Of its elements those can be active that lie `gap` bytes apart, the larger of an element's bytes and the counter's
 // unit: its first address, the active ones of them, from `low` up to `high`, their distance and their bytes, how many of them a register
 // has, and its registers: their number, the first, and the distance from one to the next.
-#[derive(Drop)]
+#[derive(Clone, Copy)]
 pub struct StridedAccess {
     pub start: u64,
     pub low: usize,
@@ -46,7 +48,7 @@ pub struct StridedAccess {
 }
 
 // Of the elements that lie `gap` bytes apart, `per` in a register: those from `low` up to `high`.
-#[derive(Drop)]
+#[derive(Clone, Copy)]
 pub struct Range {
     pub low: usize,
     pub high: usize,
@@ -55,7 +57,7 @@ pub struct Range {
 }
 
 // Elements and bytes, counted where they are written.
-#[derive(Drop)]
+#[derive(Clone, Copy)]
 pub struct Counts {
     pub elements: u64,
     pub bytes: u64,

@@ -1,4 +1,6 @@
 // The word that a decoded store is, or verdict 11.
+#![tactic(auto)]
+
 ghost use Rattle.std.specs.Prelude.{◌≡◌, not, ◌&&◌, ◌+◌, ◌*◌, ◌/◌, ◌%◌, ◌<◌, ◌≤◌, ltb};
 ghost use Rattle.encoding.specs.Encoding.{encode_of, imm_of, misextends, xs_of};
 

@@ -1,4 +1,6 @@
 // Words and decoded stores: which class of document 01 a word belongs to, and what its fields say. The way back is crate `encoder`.
+#![tactic(auto)]
+
 pub mod complement;
 pub mod table;
 
@@ -12,7 +14,7 @@ ghost use Rattle.encoding.specs.Layouts.{number_in};
 use table::{CLASSES, feature_at, index_of, layout_of, number_at, row_numbered};
 
 // What a class needs: document 01's first three flags.
-#[derive(Drop)]
+#[derive(Clone, Copy)]
 pub enum Feature {
     SVE,
     SME2,
@@ -20,14 +22,14 @@ pub enum Feature {
 }
 
 // How a scatter store's 32-bit offset is extended; None for 64-bit offsets.
-#[derive(Drop)]
+#[derive(Clone, Copy)]
 pub enum Extension {
     None,
     Uxtw,
     Sxtw,
 }
 
-#[derive(Drop)]
+#[derive(Clone, Copy)]
 pub struct ScatterFields {
     pub class: u8,
     pub zm: u8,
@@ -37,7 +39,7 @@ pub struct ScatterFields {
     pub zt: u8,
 }
 
-#[derive(Drop)]
+#[derive(Clone, Copy)]
 pub struct StridedFields {
     pub class: u8,
     pub rm: u8,
@@ -50,7 +52,7 @@ pub struct StridedFields {
     pub first: u8,
 }
 
-#[derive(Drop)]
+#[derive(Clone, Copy)]
 pub struct QuadwordFields {
     pub class: u8,
     pub rm: u8,
@@ -60,7 +62,7 @@ pub struct QuadwordFields {
 }
 
 // A decoded store.
-#[derive(Drop)]
+#[derive(Clone, Copy)]
 pub enum Store {
     Scatter(ScatterFields),
     Strided(StridedFields),
@@ -68,14 +70,14 @@ pub enum Store {
 }
 
 // What decoding answers: a store, or verdict 4.
-#[derive(Drop)]
+#[derive(Clone, Copy)]
 pub enum Decoded {
     Known(Store),
     Undefined,
 }
 
 // What encoding answers: a word, or verdict 11.
-#[derive(Drop)]
+#[derive(Clone, Copy)]
 pub enum Encoded {
     Word(u32),
     Fields,
@@ -83,7 +85,7 @@ pub enum Encoded {
 
 // What decoding and encoding need of a class: its number of registers, and how many values the fields can take in which classes of
 // one feature differ, 1 for a field that the class lacks.
-#[derive(Drop)]
+#[derive(Clone, Copy)]
 pub struct Layout {
     pub nreg: u32,
     pub xs: u32,
@@ -94,7 +96,7 @@ pub struct Layout {
 
 // What a store's elements need of its class, one number at a time: how many registers, how many values Rm can take, esize/8, msize/8
 // and the scale.
-#[derive(Drop)]
+#[derive(Clone, Copy)]
 pub enum Number {
     Nreg,
     RmValues,

@@ -1,4 +1,6 @@
 // Little-endian numbers in lent bytes, and bytes copied.
+#![tactic(auto)]
+
 ghost use Rattle.std.specs.Prelude.{◌≡◌, ◌+◌, ◌^◌, ◌≤◌, ◌<◌, length, take, drop};
 ghost use Rattle.endian.specs.LittleEndian.{le_val, le_bytes};
 ghost use Rattle.endian.specs.Overwriting.{overwritten};

@@ -1,4 +1,6 @@
 // The keys of the active elements of a scatter or quadword store, or the lowest active element outside the window.
+#![tactic(auto)]
+
 ghost use Rattle.std.specs.Prelude.{◌≡◌, ℕ, ◌+◌, ◌-◌, ◌*◌, ◌/◌, ◌%◌, ◌<◌, ◌≤◌, true, List, length, if◌then◌else◌};
 ghost use Rattle.window.specs.Window.{window_ok};
 ghost use Rattle.elements.specs.Accesses.{VectorSound, vector_elements};
@@ -10,7 +12,7 @@ use encoding::Extension;
 
 // All active elements lie in the window, and the array's first n entries are their keys; or the lowest that doesn't, with its first
 // address.
-#[derive(Drop)]
+#[derive(Clone, Copy)]
 pub enum Gathered {
     Keys { n: usize },
     Outside { element: u64, address: u64 },

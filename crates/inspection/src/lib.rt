@@ -1,4 +1,6 @@
 // One element of a word's store on a lent machine: of the flags only edition and streaming are looked at, for VB, and no window is judged.
+#![tactic(auto)]
+
 ghost use Rattle.std.specs.Prelude.{◌≡◌, false, ◌*◌, ◌^◌, length};
 ghost use Rattle.encoding.specs.Encoding.{feature_of, refused};
 ghost use Rattle.encoding.specs.declared.Feature.TheVariants.{SME2};
@@ -15,7 +17,7 @@ use verdicts::Flags;
 
 // What an element is: refused with 1, 2, or 4 for a word of no class; past the last of `count` elements; or one of them with its
 // address, the index of its first byte in the Z buffer and its bytes' number.
-#[derive(Drop)]
+#[derive(Clone, Copy)]
 pub enum Inspected {
     Length,
     Registers,

@@ -1,4 +1,6 @@
 // Flags as bits, and a verdict as a number and six answers.
+#![tactic(auto)]
+
 ghost use Rattle.std.specs.Prelude.{◌≡◌};
 ghost use Rattle.verdicts.specs.Verdicts.{refusal_number, number, detail};
 ghost use Rattle.outcomes.specs.Storing.{numbers};

@@ -1,4 +1,6 @@
 // Elements that share a byte: whether two stretches do, and the lowest key that shares one with a lower key.
+#![tactic(auto)]
+
 ghost use Rattle.std.specs.Prelude.{◌≡◌, true, not, ◌&&◌, ◌≤◌, ◌<◌, length};
 ghost use Rattle.std.proofs.Math.Option.{some};
 ghost use Rattle.ordering.specs.Keys.{entries};

@@ -1,12 +1,14 @@
-// A reader of a patch: it keeps hold of the lent bytes and its place. The functions over it are thin, and proved by hand over their
-// compiled statements; the work is done by functions of a slice and a cursor. `next_run` and `payload_of` serve callers that have these.
+// A reader of a patch: it keeps hold of the lent bytes and its place. The functions over it are thin; the work is done by functions of a
+// slice and a cursor. `next_run` and `payload_of` serve callers that have these.
+#![tactic(auto)]
+
 ghost use Rattle.std.specs.Prelude.{◌≡◌, ◌+◌, ◌≤◌, length};
 ghost use Rattle.reading.specs.Reader.{step_at, Stands, from};
 ghost use Rattle.reader.specs.Parts.{PartAt};
 
 use reading::{Cursor, Step};
 
-#[derive(Drop)]
+#[derive(Clone, Copy)]
 pub struct Reader<'a> {
     pub patch: &'a [u8],
     pub cursor: Cursor,
@@ -59,7 +61,7 @@ pub fn payload<'a>(r: Reader<'a>, at: usize, n: usize) -> &'a [u8]
     part(r.patch, at, n)
 }
 
-// One step at a place, through a reader: a caller with plain parameters needs no walk.
+// One step at a place, through a reader, for a caller with plain parameters.
 pub fn next_run(patch: &[u8], c: Cursor) -> Step
     requires { Stands patch.now c }
     ensures { result ≡ step_at patch.now c }

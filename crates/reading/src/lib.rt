@@ -1,4 +1,6 @@
 // Reading a patch that other bytes may follow: what stands at an index, one step, and all steps to the trailer.
+#![tactic(auto)]
+
 ghost use Rattle.std.specs.Prelude.{◌≡◌};
 ghost use Rattle.reading.specs.Reader.{head_at, admits, step_at, Stands, read_at};
 ghost use Rattle.reading.specs.Stops.{stop_of, reading};
@@ -8,7 +10,7 @@ pub const MAX_RUNS: usize = 512;
 pub const MAX_BYTES: usize = 1024;
 
 // What stands at an index, by its mark: a run whose bytes are all there, a trailer with its number of runs, or neither.
-#[derive(Drop)]
+#[derive(Clone, Copy)]
 pub enum Head {
     Start { start: u64, len: usize },
     Trailer { count: usize },
@@ -16,7 +18,7 @@ pub enum Head {
 }
 
 // Where the reader stands, with the runs and payload bytes behind it and the last address that they write.
-#[derive(Drop)]
+#[derive(Clone, Copy)]
 pub struct Cursor {
     pub at: usize,
     pub runs: usize,
@@ -25,7 +27,7 @@ pub struct Cursor {
 }
 
 // What one step finds: a run with its bytes at `from`, the trailer, or what can't be accepted.
-#[derive(Drop)]
+#[derive(Clone, Copy)]
 pub enum Step {
     Next {
         start: u64,
@@ -41,7 +43,7 @@ pub enum Step {
 
 // Where all steps end, with the runs and payload bytes behind it and the last address that they write, and whether a trailer stands
 // there. Numbers that are answered together don't stand side by side: one wide load of both would wait for their two stores.
-#[derive(Drop)]
+#[derive(Clone, Copy)]
 pub struct Stop {
     pub ended: bool,
     pub runs: usize,
@@ -51,7 +53,7 @@ pub struct Stop {
 }
 
 // What all steps find: a patch with its trailer at `at`, or where what follows the runs can't be accepted.
-#[derive(Drop)]
+#[derive(Clone, Copy)]
 pub enum Reading {
     Whole {
         at: usize,

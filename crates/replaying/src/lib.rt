@@ -1,5 +1,7 @@
 // Two functions make the calls that demand 3 speaks of, and promise its sentences: they follow from the contracts of `store` and `apply`
 // alone.
+#![tactic(auto)]
+
 ghost use Rattle.std.specs.Prelude.{◌≡◌, true, ◌↔◌};
 ghost use Rattle.elements.specs.Machine.{machine};
 ghost use Rattle.replaying.specs.Calls.{length_of, AppliedIf, Replayed, Compared};

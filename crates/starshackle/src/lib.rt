@@ -1,5 +1,7 @@
 // The interface for C and Rust: thin functions over the proved crates. The result is the verdict's number; other numbers go into
 // an array that the caller lends.
+#![tactic(auto)]
+
 mod inspecting;
 
 ghost use Rattle.std.specs.Prelude.{◌≡◌};

@@ -1,4 +1,6 @@
 // The merged call: checks 1 to 7, 12 and 8 in that order, then memory and patch buffer are written together.
+#![tactic(auto)]
+
 ghost use Rattle.elements.specs.Machine.{machine};
 ghost use Rattle.outcomes.specs.Storing.{Stored};
 

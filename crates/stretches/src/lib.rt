@@ -1,4 +1,6 @@
 // Stretches of bytes in a window: elements joined where each starts where the one before ends, and the runs that stretches make.
+#![tactic(auto)]
+
 ghost use Rattle.std.specs.Prelude.{◌≡◌, ◌+◌, ◌-◌, ◌<◌, ◌≤◌, eqb, leb, length};
 ghost use Rattle.ordering.specs.Keys.{entries, sorted, Distinct};
 ghost use Rattle.stretches.specs.Intervals.{total};
@@ -28,7 +30,7 @@ fn higher(x: usize, y: usize) -> usize
 }
 
 // A run of a patch: where it starts and ends, and the first stretch behind it.
-#[derive(Drop)]
+#[derive(Clone, Copy)]
 pub struct Reach {
     pub start: usize,
     pub end: usize,
@@ -77,7 +79,7 @@ pub fn is_one(keys: &[u32], n: usize, size: usize) -> bool
 }
 
 // How many stretches keys make, and whether those ascend.
-#[derive(Drop)]
+#[derive(Clone, Copy)]
 struct JoinedKeys {
     count: usize,
     ascending: bool,

@@ -1,5 +1,7 @@
 // Strided stores from verdict 7 on. The active elements lie side by side, or all at one larger distance: memory is tested as a whole, and
 // the patch has one run, or one for each of them.
+#![tactic(auto)]
+
 ghost use Rattle.std.specs.Prelude.{◌≡◌, true, List, [], ℕ, ◌+◌, ◌-◌, ◌*◌, ◌≤◌, ◌<◌, length};
 ghost use Rattle.std.proofs.Math.Option.{none};
 ghost use Rattle.window.specs.Window.{window_ok};
@@ -13,7 +15,7 @@ use elements::StridedAccess;
 use verdicts::{Refusal, Verdict};
 
 // All active elements lie in the window, or the lowest that doesn't, with its first address.
-#[derive(Drop)]
+#[derive(Clone, Copy)]
 pub enum Search {
     Inside,
     Outside { element: u64, address: u64 },
@@ -93,7 +95,7 @@ fn store_none(base: u64, memory: &[u8], patch: &mut [u8]) -> Verdict
 }
 
 // How many runs there are, and how many bytes each has: one for all where elements lie side by side, else one for each of them.
-#[derive(Drop)]
+#[derive(Clone, Copy)]
 struct Runs {
     count: usize,
     size: usize,

@@ -1,4 +1,6 @@
 // Scatter and quadword stores from verdict 7 on: keys, stretches, verdict 12, room, memory, patch.
+#![tactic(auto)]
+
 ghost use Rattle.std.specs.Prelude.{◌≡◌, true, ◌&&◌, List, ◌+◌, ◌*◌, ◌<◌, ◌≤◌, eqb, length};
 ghost use Rattle.writes.specs.Elements.{Element};
 ghost use Rattle.window.specs.Window.{window_ok};

@@ -1,5 +1,7 @@
 // Flags, refusals and verdicts. What decides them is in specs/.
-#[derive(Drop)]
+#![tactic(auto)]
+
+#[derive(Clone, Copy)]
 pub struct Flags {
     pub sve: bool,
     pub sme2: bool,
@@ -16,7 +18,7 @@ pub struct Flags {
 }
 
 // Document 01's refusals 1 to 8, and document 02 (viii)'s, 12, which stands before 8.
-#[derive(Drop)]
+#[derive(Clone, Copy)]
 pub enum Refusal {
     Length,
     Registers,
@@ -32,7 +34,7 @@ pub enum Refusal {
 }
 
 // What a store answers.
-#[derive(Drop)]
+#[derive(Clone, Copy)]
 pub enum Verdict {
     Done {
         elements: u64,

@@ -1,4 +1,6 @@
 // The window's tests: whether it is one, whether bytes lie in it, and the first that doesn't.
+#![tactic(auto)]
+
 ghost use Rattle.std.specs.Prelude.{◌≡◌, ◌+◌, ◌-◌, ◌%◌, ◌^◌, ◌≤◌, if◌then◌else◌, nat_le};
 ghost use Rattle.window.specs.Window.{window_ok, in_window, offset_in};
 

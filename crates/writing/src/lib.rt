@@ -1,4 +1,6 @@
 // The elements of a scatter or quadword store, written in the order of their keys.
+#![tactic(auto)]
+
 ghost use Rattle.std.specs.Prelude.{◌≡◌, true, ◌*◌, ◌<◌, ◌≤◌, length};
 ghost use Rattle.elements.specs.Accesses.{is_width};
 ghost use Rattle.ordering.specs.Keys.{number_of, entries, Each};
