@@ -2,7 +2,6 @@
 use Rattle.std.proofs.Common.{◌≡◌, ℕ, suc, ◌+◌, ◌-◌, ◌%◌, ◌^◌, ◌<◌, ◌≤◌, Bool, true, false, cond, not, ◌||◌, T, eqb, ltb, List, [], ◌∷◌, pos, negsuc, sym, refl, ap, ◌∙◌, subst, true≢false, arith, eqb→eq, ltb→lt, lt→ltb, w64, to_z, ltb-false, ltb-true, le-ltb, lt-ltb, eq-eqb, ne_eqb}
 use lib.Signed.{mag}
 use mir.Val.{sel}
-use borrow.Author.Tests.{not-true, not-false}
 use Rattle.encoding.specs.declared.Feature.{Feature}
 use Rattle.encoding.specs.declared.Feature.TheVariants.{SVE, SME2, SVE2p1}
 use Rattle.encoding.specs.Encoding.{encode_of}
@@ -89,8 +88,8 @@ byte es i = ltb (entry es i) 256
 abbrev rest : List ℕ → List Bool
 rest es = byte es 1 ∷ byte es 3 ∷ byte es 4 ∷ byte es 5 ∷ signed_byte (entry es 6) ∷ []
 
-pub narrowed : (es : List ℕ) (b : Bool) → b ≡ narrow es → not b ≡ false → Narrow es
-narrowed es b e t = made (told (byte es 0) (rest es) (holds (sym e ∙ not-false b t)))
+pub narrowed : (es : List ℕ) (b : Bool) → b ≡ narrow es → b ≡ true → Narrow es
+narrowed es b e t = made (told (byte es 0) (rest es) (holds (sym e ∙ t)))
   where
     made : Facts (byte es 0 ∷ rest es) → Narrow es
     made (t0, (t1, (t3, (t4, (t5, (t6, u)))))) =
@@ -139,11 +138,11 @@ refused-too b (Word w) f false g = absurd (f (g refl w refl))
 refused-too b Fields f false g = refl
 
 module _ (es : List ℕ) where
-  pub given-wide : (b : Bool) → b ≡ narrow es → not b ≡ true → Fields ≡ encode_given es
+  pub given-wide : (b : Bool) → b ≡ narrow es → b ≡ false → Fields ≡ encode_given es
   unfolding encode_given
   given-wide b e t =
       let x = feature_given es in
-      refused-too (narrow es) (encode_of (store_given x es)) (fails (sym e ∙ not-true b t)) (misgiven x es) (word-narrow es x)
+      refused-too (narrow es) (encode_of (store_given x es)) (fails (sym e ∙ t)) (misgiven x es) (word-narrow es x)
 
   module _ (x : Feature) (e : x ≡ feature_given es) (b : Bool) (f : b ≡ misgiven x es) where
     is : b ≡ misgiven (feature_given es) es

@@ -1,6 +1,6 @@
 -- Two sets walked side by side: the next step of each kind, parts at once, and that what is found is what differs. Assumes nothing.
 use mathlib.Core.Path.{◌≡◌, refl, sym, ap, ap₂, ◌∙◌, subst}
-use Prim.Native.Nat.{ℕ, suc, ◌+◌, ◌≤◌, ◌<◌}
+use Prim.Native.Nat.{ℕ, suc, ◌+◌, ◌≤◌}
 use mathlib.Core.List.{List, [], ◌∷◌, ◌++◌}
 use mathlib.Core.Bool.{Bool, true, false, cond}
 use mathlib.Core.Option.{Option, none, some}
@@ -9,9 +9,9 @@ use lib.ListN.{length}
 use lib.Dec.{eqb}
 use borrow.Author.Tests.{lt-ltb, le-ltb, eq-eqb, ne_eqb, eqb-true, eqb-false}
 use Rattle.writes.specs.Sets.{ByteWrite, write, Ascending, lookup, writes_at}
-use Rattle.endian.proofs.Order.{three, absurdly}
+use Rattle.endian.proofs.Order.{three}
 use Rattle.writes.proofs.Lookup.{lookup-here, lookup-there, lookup-below}
-use Rattle.comparing.specs.Differences.{Sides, sides, Difference, differ, alike, unlike, Ascends, listed_at, Lists}
+use Rattle.comparing.specs.Differences.{sides, Difference, differ, alike, unlike, Ascends, listed_at, Lists}
 use Rattle.comparing.specs.Merging.{seconds, against, differences, zipped}
 
 -- ---- one step

@@ -1,6 +1,6 @@
 -- What comparing answers, from what its tests say; each answer is the only one. Assumes nothing.
 use mathlib.Core.Path.{◌≡◌, refl, sym, ap, ap₂, ◌∙◌, subst}
-use Prim.Native.Nat.{ℕ, suc, ◌+◌, ◌*◌, ◌/◌, ◌≤◌, ◌<◌}
+use Prim.Native.Nat.{ℕ, suc, ◌*◌, ◌/◌, ◌≤◌, ◌<◌}
 use mathlib.Core.List.{List, [], ◌∷◌, ◌++◌}
 use mathlib.Core.Bool.{Bool, true, false}
 use mathlib.Core.Option.{Option, none, some}
@@ -11,7 +11,6 @@ use borrow.Author.Tests.{lt-ltb, le-ltb}
 use Rattle.endian.specs.LittleEndian.{Bytes}
 use Rattle.endian.proofs.Order.{three, two, absurdly}
 use Rattle.writes.specs.Sets.{ByteWrite}
-use Rattle.writes.specs.Encoding.{PatchOf}
 use Rattle.patch.specs.Answers.{judged_number}
 use Rattle.patch.specs.Judging.{judged}
 use Rattle.patch.specs.Placing.{set_of}
@@ -21,7 +20,6 @@ use Rattle.patch.proofs.Patches.{patch-one, patch-set, patch-judged, judged-set}
 use Rattle.comparing.specs.Differences.{Sides, sides, Difference, differ, Ascends, listed_at, Lists}
 use Rattle.comparing.specs.Comparing.{numbers_of, IsPatch, NoPatch, Differing, ComparedTo}
 use Rattle.comparing.specs.Merging.{differences, put, lacking, Patches}
-use Rattle.comparing.specs.declared.Compared.{Compared}
 use Rattle.comparing.specs.declared.Compared.TheVariants.{Done, NoRoom, FirstBad, SecondBad}
 use Rattle.comparing.proofs.Merged.{differences-listed, listed_here, listed-there}
 use Rattle.comparing.proofs.Zipping.{put_all}

@@ -1,10 +1,10 @@
 -- Where a side stands: at the run that a cursor comes to, and further. Assumes nothing.
-use mathlib.Core.Path.{◌≡◌, refl, sym, ap, ap₂, ◌∙◌, subst}
-use Prim.Native.Nat.{ℕ, zero, suc, ◌+◌, ◌-◌, ◌^◌, ◌≤◌, ◌<◌}
+use mathlib.Core.Path.{◌≡◌, refl, sym, ap, ap₂, ◌∙◌}
+use Prim.Native.Nat.{ℕ, zero, suc, ◌+◌, ◌-◌, ◌≤◌, ◌<◌}
 use mathlib.Core.List.{List, [], ◌∷◌, ◌++◌, append_assoc}
 use native.Mathlib.Omega.{arith}
 use native.Mathlib.Nat.{add-zero}
-use lib.ListN.{length, take, drop, length-drop, length-append}
+use lib.ListN.{length, take, drop, length-drop}
 use lib.Seq.{drop-drop, take-nil}
 use Rattle.writes.specs.Sets.{ByteWrite, write, Run, run, runs, writes_at, writes_of}
 use Rattle.writes.specs.Sizes.{max_runs}
@@ -12,7 +12,6 @@ use Rattle.endian.proofs.Order.{absurdly}
 use Rattle.endian.proofs.Parts.{length_part}
 use Rattle.reading.specs.Reader.{past, step_at, Stands, Found, whole, broken, before, on_step, scan, from, read_at}
 use Rattle.reading.specs.Stops.{runs_in}
-use Rattle.reading.specs.declared.Step.{Step}
 use Rattle.reading.specs.declared.Step.TheVariants.{Next, End, Bad}
 use Rattle.reading.specs.declared.Cursor.{Cursor}
 use Rattle.reading.proofs.Loops.{rest, rest-step}

@@ -3,7 +3,6 @@ use mathlib.Core.Path.{◌≡◌, refl, sym, ap, ap₂, ◌∙◌, subst}
 use Prim.Native.Nat.{ℕ, zero, suc, ◌+◌, ◌*◌, ◌≤◌, ◌<◌}
 use mathlib.Core.List.{List, [], ◌∷◌, ◌++◌}
 use mathlib.Core.Bool.{Bool, true, false, cond}
-use mathlib.Core.Logic.{◌↔◌}
 use mathlib.Core.Option.{Option, none, some}
 use native.Mathlib.Omega.{arith}
 use lib.ListN.{length, drop, get_or}
@@ -24,7 +23,7 @@ use Rattle.patch.proofs.Patches.{patch-one, patch-judged, judged-set}
 use Rattle.comparing.specs.Differences.{Sides, sides, Difference, differ, alike, unlike, Ascends, listed_at, Lists}
 use Rattle.comparing.specs.Comparing.{side_number, numbers_of, IsPatch, NoPatch, Differing, ComparedTo}
 use Rattle.comparing.specs.Answers.{compared_number, compared_numbers}
-use Rattle.comparing.specs.Merging.{differences, put, Patches}
+use Rattle.comparing.specs.Merging.{differences, Patches}
 use Rattle.comparing.specs.Statements.{OneOutcome, RefusalKeepsList, ListsEach, OneList, NothingDiffers, FewEntries}
 use Rattle.comparing.specs.Statements.{exchanged, OtherWayRound, JudgesAlike, CountsEntries, EntriesInNumbers}
 use Rattle.comparing.specs.declared.Compared.{Compared}

@@ -1,7 +1,7 @@
 -- Which bytes come next, and a turn of the walk over both sides: the part's entries come first, then those of what is left. Assumes
 -- nothing.
 use mathlib.Core.Path.{◌≡◌, refl, sym, ap, ap₂, ◌∙◌, subst}
-use Prim.Native.Nat.{ℕ, zero, suc, ◌+◌, ◌-◌, ◌*◌, ◌^◌, ◌≤◌, ◌<◌}
+use Prim.Native.Nat.{ℕ, ◌+◌, ◌-◌, ◌*◌, ◌^◌, ◌≤◌, ◌<◌}
 use mathlib.Core.List.{List, [], ◌∷◌, ◌++◌}
 use native.Mathlib.Omega.{arith}
 use native.Mathlib.Nat.{zero-add}
@@ -10,7 +10,7 @@ use Rattle.endian.specs.LittleEndian.{Bytes}
 use Rattle.endian.proofs.LittleEndian.{bytes_take, bytes_drop}
 use Rattle.endian.proofs.Parts.{length_part}
 use Rattle.endian.proofs.Order.{two}
-use Rattle.writes.specs.Sets.{ByteWrite, write, Ascending, writes_at, writes_of}
+use Rattle.writes.specs.Sets.{ByteWrite, writes_at, writes_of}
 use Rattle.writes.specs.Sizes.{max_bytes}
 use Rattle.writes.specs.Encoding.{PatchOf}
 use Rattle.writes.proofs.Runs.{bytes-encode}
@@ -18,7 +18,6 @@ use Rattle.reading.specs.Stops.{runs_in}
 use Rattle.reading.proofs.Loops.{rest}
 use Rattle.patch.specs.Placing.{set_of}
 use Rattle.patch.proofs.Patches.{patch-set}
-use Rattle.comparing.specs.Differences.{Difference, differ}
 use Rattle.comparing.specs.Merging.{differences, zipped, put, left_of, Fit, Started, Skipped, Cut, firsts, others, both}
 use Rattle.comparing.specs.Merging.{Patches, Parts, Room}
 use Rattle.comparing.specs.declared.fronts.Front.{Front}

@@ -106,6 +106,7 @@ past W L k n a s p rs i l =
 
 nowhere : {X : Type 0} (t : ℕ) (q : List ℕ) (rs : List Run) → rs ≡ [] → Among t q rs → X
 nowhere t q (r ∷ rs) e x = absurd (omega (arith, ap length e))
+nowhere {X = X} t q [] e x = elim x [ ]
 
 lowest : (W L k n a : ℕ) (rs : List Run) → lowest_outside W L k rs ≡ Beyond n a → Lowest W L k n a rs
 unfolding lowest_outside
@@ -141,6 +142,7 @@ unfolding lowest_outside
 none-outside W L k (run s q ∷ rs) e a p here = (front-inside (in_window W L a (length p)) (lowest_outside W L (suc k) rs) k a e).0
 none-outside W L k (run s q ∷ rs) e a p (there y) =
     none-outside W L (suc k) rs (front-inside (in_window W L s (length q)) (lowest_outside W L (suc k) rs) k s e).1 a p y
+none-outside W L k [] e a p x = elim x [ ]
 
 -- ---- the numbers
 

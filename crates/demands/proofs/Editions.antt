@@ -1,7 +1,6 @@
 -- Document 02 (vi): both rules for the vector length. Assumes nothing.
 use mathlib.Core.Path.{◌≡◌, refl, sym, ap, ◌∙◌, subst}
 use mathlib.Core.Bool.{Bool, true, false, not, cond, ◌&&◌, ◌||◌}
-use mathlib.Core.List.{List}
 use mathlib.Core.Logic.{◌↔◌, ◌⊎◌, inl, inr, ⊎_elim}
 use Prim.Native.Nat.{ℕ, ◌*◌, ◌/◌, ◌%◌, ◌≤◌}
 use native.Mathlib.Omega.{arith}
@@ -12,7 +11,6 @@ use borrow.Author.Tests.{eqb-true}
 use Rattle.encoding.specs.Classes.{Class, no_class, classes, class_at}
 use Rattle.encoding.specs.Decoding.{decode_of}
 use Rattle.encoding.specs.Encoding.{class_for, row_for}
-use Rattle.encoding.specs.declared.Decoded.{Decoded}
 use Rattle.encoding.specs.declared.Decoded.TheVariants as D
 use Rattle.encoding.specs.declared.Store.{Store}
 use Rattle.encoding.specs.declared.Store.TheVariants.{Strided}
@@ -22,7 +20,7 @@ use Rattle.encoding.proofs.Statements.{one_of, accepted, known-accepted}
 use Rattle.elements.specs.Machine.{Machine}
 use Rattle.elements.specs.Stores.{step_of, per_register}
 use Rattle.elements.proofs.Numbers.{per-is}
-use Rattle.verdicts.specs.Verdicts.{elements_for, length_ok, registers_ok, undefined, illegal_for, table, decided, verdict_of, number}
+use Rattle.verdicts.specs.Verdicts.{length_ok, registers_ok, undefined, illegal_for, decided, verdict_of, number}
 use Rattle.verdicts.specs.Statements.{OneOfFive, AnyMultiple, AllowedLength}
 use Rattle.verdicts.specs.declared.Flags.{Flags}
 use Rattle.verdicts.specs.declared.Refusal.TheVariants.{Length, Registers, Window, Undefined, Illegal}

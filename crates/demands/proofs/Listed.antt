@@ -41,6 +41,7 @@ module _ (on : ℕ → Bool) (el : ℕ → Element) where
           (λ p. record { at = k; from = omega arith; below = omega arith; is-on = q; is = p })
           (λ u. further k n x (f u))
       go false q r f = further k n x (f r)
+  listed-among zero k x l = elim l [ ]
 
   -- the element of number k + d
   pub among-listed : (n k d : ℕ) → d < n → on (k + d) ≡ true → Listed (el (k + d)) (actives on el n k)

@@ -67,6 +67,7 @@ module _ (on : ℕ → Bool) (el : ℕ → Element) where
           → (StandsBefore y x (actives on el n (suc k)) → Two (suc k) n y x) → Two k (suc n) y x
       go true q r f g = split (el k) (actives on el n (suc k)) refl q r f g
       go false q r f g = two-further k n y x (g r)
+  stands-two zero k y x b = elim b [ ]
 
   -- the elements of numbers k + d and k + d + 1 + c
   pub two-stands : (n k d c : ℕ) → d + suc c < n → on (k + d) ≡ true → on (k + d + suc c) ≡ true
@@ -122,6 +123,7 @@ module _ (on : ℕ → Bool) (el : ℕ → Element) where
           → (Listed y (lower_of k) → (d : ℕ) × (d < k) × (on d ≡ true) × (y ≡ el d)) → (d : ℕ) × (d < suc k) × (on d ≡ true) × (y ≡ el d)
       go true q r f = split (el k) (lower_of k) refl q r f
       go false q r f = let t = f r in (t.0, omega (arith, t.1), t.2, t.3)
+  listed-lower zero y l = elim l [ ]
 
   pub lower-listed : (k d : ℕ) → d < k → on d ≡ true → Listed (el d) (lower_of k)
   unfolding lower_of

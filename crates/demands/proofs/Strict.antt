@@ -2,7 +2,6 @@
 use mathlib.Core.Path.{◌≡◌, refl, sym, ap, ◌∙◌, subst}
 use mathlib.Core.Bool.{Bool, true, false, not, cond, ◌&&◌}
 use mathlib.Core.List.{List, [], ◌∷◌}
-use mathlib.Core.Logic.{◌↔◌}
 use mathlib.Core.Option.{Option, none, some}
 use Prim.Native.Nat.{ℕ, zero, suc, ◌+◌, ◌-◌, ◌*◌, ◌≤◌, ◌<◌}
 use native.Mathlib.Omega.{arith}
@@ -32,7 +31,7 @@ use Rattle.accesses.proofs.Apart.{strided-no-overlap}
 use Rattle.window.specs.Window.{window_ok}
 use Rattle.verdicts.specs.Verdicts.{length_ok, registers_ok, flag_on, illegal, Row, row}
 use Rattle.verdicts.specs.Verdicts.{elements_for, size_for, patch_of, found, overlap, overlap_of, table, decided, done_of, verdict_of, number}
-use Rattle.verdicts.specs.Statements.{Given, NoneGiven, Decides, before, without, StandsBefore, TwoShare}
+use Rattle.verdicts.specs.Statements.{Given, NoneGiven, before, without, StandsBefore, TwoShare}
 use Rattle.verdicts.specs.declared.Flags.{Flags}
 use Rattle.verdicts.specs.declared.Refusal.TheVariants.{Length, Registers, Window, Undefined, Illegal, Overlap, NoRoom}
 use Rattle.verdicts.specs.declared.Verdict.{Verdict}
@@ -43,7 +42,7 @@ use Rattle.verdicts.proofs.Words.{Shared, with-true, true-with}
 use Rattle.verdicts.proofs.Words as words
 use Rattle.verdicts.proofs.Statements.{table-numbered, table-given-when}
 use Rattle.outcomes.specs.Storing.{Stored}
-use Rattle.demands.specs.Demand2.{table_for, ShareAByte, TwoActiveShare, OverlapGiven, OverlapNamesTheLowest}
+use Rattle.demands.specs.Demand2.{table_for, TwoActiveShare, OverlapGiven, OverlapNamesTheLowest}
 use Rattle.demands.specs.Demand3.{NoneDue, effect_for}
 use Rattle.demands.specs.Strict.{lenient, StrictStores}
 use Rattle.demands.proofs.Shared.{stands-two, two-stands, lower_of, listed-lower, lower-listed, first-overlap}

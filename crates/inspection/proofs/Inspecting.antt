@@ -143,17 +143,17 @@ length-for-power f vb (Scatter g) e q = absurdly cc
 length-for-power f vb (Quadword g) e q = absurdly cc
 
 module _ (f : Flags) (m : Machine) (word e : ℕ) where
-  pub inspected-length : (b : Bool) → b ≡ length_for f m.vb (decode_of word) → not b ≡ true → Length ≡ inspected_of f m word e
+  pub inspected-length : (b : Bool) → b ≡ length_for f m.vb (decode_of word) → b ≡ false → Length ≡ inspected_of f m word e
   unfolding inspected_of
   inspected-length b q t =
       sym
-      (ap (λ (y : Bool). cond y Length (cond (not (registers_ok m)) Registers (inspected_for m (decode_of word) e))) (ap not (sym q) ∙ t))
+      (ap (λ (y : Bool). cond y Length (cond (not (registers_ok m)) Registers (inspected_for m (decode_of word) e))) (ap not (sym q ∙ t)))
 
-  module _ (b : Bool) (q : b ≡ length_for f m.vb (decode_of word)) (t : not b ≡ false) where
+  module _ (b : Bool) (q : b ≡ length_for f m.vb (decode_of word)) (t : b ≡ true) where
     past-1 : inspected_of f m word e ≡ cond (not (registers_ok m)) Registers (inspected_for m (decode_of word) e)
     unfolding inspected_of
     past-1 =
-        ap (λ (y : Bool). cond y Length (cond (not (registers_ok m)) Registers (inspected_for m (decode_of word) e))) (ap not (sym q) ∙ t)
+        ap (λ (y : Bool). cond y Length (cond (not (registers_ok m)) Registers (inspected_for m (decode_of word) e))) (ap not (sym q ∙ t))
 
     by-registers : (d : Bool) → registers_ok m ≡ d → inspected_of f m word e ≡ cond (not d) Registers (inspected_for m (decode_of word) e)
     by-registers d r = past-1 ∙ ap (λ (y : Bool). cond (not y) Registers (inspected_for m (decode_of word) e)) r

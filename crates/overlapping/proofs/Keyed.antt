@@ -10,8 +10,8 @@ use lib.ListN.{length}
 use Rattle.endian.proofs.Order.{two, absurdly}
 use Rattle.writes.specs.Elements.{Element, share_byte, shares_with, overlap_from, first_overlap}
 use Rattle.writes.proofs.Sharing.{apart-false, meeting-true}
-use Rattle.ordering.specs.Keys.{number_of, entries, sorted}
-use Rattle.stretches.specs.Stretches.{start_of, end_of, Seen, key_of, keys_of, joined, Rising}
+use Rattle.ordering.specs.Keys.{number_of, sorted}
+use Rattle.stretches.specs.Stretches.{start_of, end_of, Seen, key_of, keys_of, joined}
 use Rattle.stretches.proofs.Keying.{key-start, key-bytes, key-number, keys-sized, length-keys, stretches-rising}
 use Rattle.overlapping.specs.Overlaps.{parted, meets, meets_any, meeting_from, first_meeting, is_found}
 use Rattle.overlapping.proofs.Meeting.{meets-yes, meets-left, meets-right, parted-keys}

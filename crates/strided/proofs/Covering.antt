@@ -24,7 +24,7 @@ use Rattle.elements.specs.declared.StridedAccess.{StridedAccess}
 use Rattle.accesses.proofs.Sizes.{gap-small, reach-small, bytes-long}
 use Rattle.accesses.proofs.Spacing.{listed, reach, strided-listed, strided-count, element_bytes, inside, reached, strided-bounds}
 use Rattle.accesses.proofs.Spacing.{strided-joined, strided-apart}
-use Rattle.stretches.specs.Intervals.{Interval, interval, Separate, total}
+use Rattle.stretches.specs.Intervals.{Interval, Separate, total}
 use Rattle.stretches.proofs.Covering.{or, or_swap, or_assoc, among, among-low, among-high, hull, covered, is_some, some-writes_at, some_or}
 use Rattle.copying.specs.Spreading.{spread_over, spread}
 use Rattle.cutting.specs.Cutting.{cut, spaced, Fits}

@@ -47,6 +47,7 @@ module _ (done : Verdict) (zero : number done ≡ 0) where
       ap (λ (b : Bool). number (cond b (Refused r.returned) (decided rs done))) x.1 ∙ u.0.same ∙ x.0
   decides-number (r ∷ rs) u n (inr x) =
       ap (λ (b : Bool). number (cond b (Refused r.returned) (decided rs done))) x.0 ∙ decides-number rs u.1 n x.1
+  decides-number [] u n x = elim x [ ]
 
 -- ---- the line of number n, where no two have one number
 
@@ -70,6 +71,7 @@ given-occurs n (r ∷ rs) (inr x) = go (eqb r.number n) (given-occurs n rs x)
     go : (b : Bool) → occurs n rs ≡ true → b || occurs n rs ≡ true
     go true e = refl
     go false e = e
+given-occurs n [] x = elim x [ ]
 
 given-at : (n : ℕ) (rs : List Row) → distinct rs ≡ true → Given n rs → given_at n rs ≡ true
 given-at n (r ∷ rs) t x = go (eqb r.number n) refl x (given-at n rs u.1)
@@ -85,6 +87,7 @@ given-at n (r ∷ rs) t x = go (eqb r.number n) refl x (given-at n rs u.1)
         absurdly cc
     go false q (inl x) f = absurd (eqb-false r.number n q x.0)
     go false q (inr x) f = f x
+given-at n [] t x = elim x [ ]
 
 at-given : (n : ℕ) (rs : List Row) → given_at n rs ≡ true → Given n rs
 at-given n [] e = absurdly cc
@@ -107,6 +110,7 @@ from n (r ∷ rs) = cond (eqb r.number n) (r ∷ rs) (from n rs)
 pub decides-given : (n : ℕ) (rs : List Row) → Decides n rs → Given n rs
 decides-given n (r ∷ rs) (inl x) = inl x
 decides-given n (r ∷ rs) (inr x) = inr (decides-given n rs x.1)
+decides-given n [] x = elim x [ ]
 
 pub decides-before : (n : ℕ) (rs : List Row) → Decides n rs → NoneGiven (before n rs)
 decides-before n (r ∷ rs) d = go (eqb r.number n) refl d (decides-before n rs)
@@ -116,6 +120,7 @@ decides-before n (r ∷ rs) d = go (eqb r.number n) refl d (decides-before n rs)
     go true q x f = tt
     go false q (inl x) f = absurd (eqb-false r.number n q x.0)
     go false q (inr x) f = (x.0, f x.1)
+decides-before n [] d = elim d [ ]
 
 pub before-decides : (n : ℕ) (rs : List Row) → NoneGiven (before n rs) → given_at n rs ≡ true → Decides n rs
 before-decides n [] h g = absurdly cc

@@ -3,7 +3,7 @@ use mathlib.Core.Path.{◌≡◌, refl, sym, ap, subst}
 use mathlib.Core.Bool.{Bool, true, false, not, cond, ◌&&◌, ◌||◌}
 use mathlib.Core.List.{List, [], ◌∷◌}
 use mathlib.Core.Logic.{◌↔◌, ◌⊎◌, inl, inr, ⊎_elim}
-use mathlib.Core.Option.{Option, none, some}
+use mathlib.Core.Option.{some}
 use Prim.Native.Nat.{ℕ, ◌+◌, ◌*◌, ◌/◌, ◌%◌, ◌^◌, ◌<◌}
 use native.Mathlib.Omega.{arith}
 use borrow.Author.Tests.{eqb-true, eq-eqb, leb-true, le-leb}
@@ -131,6 +131,7 @@ illegal-given f (D.Known (Quadword g)) = in-streaming f.streaming f.fa64
 
 none-listed : {X : Type 0} (x : Element) (es : List Element) → es ≡ [] → Listed x es → X
 none-listed x (y ∷ es) e l = absurd (omega (arith, ap length e))
+none-listed {X = X} x [] e l = elim l [ ]
 
 -- an active element or the second SP flag
 some-or-flag : (es : List Element) (i : Bool) → (some_active es || i ≡ true) ↔ (((x : Element) × Listed x es) ⊎ (i ≡ true))
@@ -191,6 +192,7 @@ module _ (W L : ℕ) where
       go : (b : Bool) → found (first_outside W L es) ≡ true → found (cond b (first_outside W L es) (some y)) ≡ true
       go true e = e
       go false e = refl
+  outside-found [] x x4 i = elim x4 [ ]
 
   -- where none is found all lie inside
   pub none_found : (es : List Element) → found (first_outside W L es) ≡ false → InWindow W L es
@@ -228,6 +230,7 @@ pub with-true : (x y : Element) (ys : List Element) → Listed y ys → Shared y
 unfolding shares_with
 with-true x y (z ∷ ys) here c = ap (λ (b : Bool). b || shares_with x ys) (shared-true y x c)
 with-true x y (z ∷ ys) (there l) c = or-true (share_byte x z) (shares_with x ys) (with-true x y ys l c)
+with-true x y [] x3 c = elim x3 [ ]
 
 pub true-with : (x : Element) (ys : List Element) → shares_with x ys ≡ true → (y : Element) × Listed y ys × Shared y x
 unfolding shares_with
@@ -273,11 +276,13 @@ unfolding overlap_from
 lower-found lower (z ∷ xs) y x l here c =
     ap (λ (b : Bool). found (cond b (some z) (overlap_from (z ∷ lower) xs))) (with-true x y lower l c)
 lower-found lower (z ∷ xs) y x l (there k) c = behind z lower xs (lower-found (z ∷ lower) xs y x (there l) k c)
+lower-found lower [] y x l x5 c = elim x5 [ ]
 
 share-found : (lower es : List Element) (y x : Element) → StandsBefore y x es → Shared y x → found (overlap_from lower es) ≡ true
 unfolding overlap_from
 share-found lower (z ∷ xs) y x (first l) c = behind z lower xs (lower-found (z ∷ lower) xs y x here l c)
 share-found lower (z ∷ xs) y x (later b) c = behind z lower xs (share-found (z ∷ lower) xs y x b c)
+share-found lower [] y x x4 c = elim x4 [ ]
 
 pub overlap-given : (f : Flags) (es : List Element) → (overlap f es ≡ true) ↔ ((f.strict ≡ true) × TwoShare es)
 overlap-given f es = (

@@ -1,0 +1,10 @@
+-- `move8`: eight bytes read as a number and put. Assumes nothing.
+use Rattle.endian.proofs.LittleEndian.{bytes-at}
+use Rattle.cutting.proofs.Copying.{moved}
+use Rattle.cutting.proofs.move8.Goals as goal
+
+pub returns : goal.returns
+returns c =
+    let s = c.args.memory.now in
+    let b = bytes-at s (λ i. (c.type_inv.memory i).fits) in
+    moved c.args.out.now s _ c.args.at c.args.p 8 _ b c.requires.1 c.le64-x.ensures c.put64.ensures

@@ -1,0 +1,57 @@
+-- `quadword_access`: the class's numbers and the store's fields. No loop. Assumes nothing.
+use Rattle.std.proofs.Common.{◌≡◌, ℕ, [], arith}
+use Rattle.encoding.specs.Encoding.{class_numbered, class_for}
+use Rattle.encoding.specs.Layouts.{number_in}
+use Rattle.encoding.specs.declared.Extension.TheVariants.{None}
+use Rattle.encoding.specs.declared.Number.{Number}
+use Rattle.encoding.specs.declared.Number.TheVariants.{Step, Size}
+use Rattle.encoding.specs.declared.Store.TheVariants.{Quadword}
+use Rattle.encoding.proofs.Statements.{listed}
+use Rattle.elements.specs.Machine.{machine}
+use Rattle.elements.specs.Accesses.{quadword_access}
+use Rattle.elements.specs.declared.VectorAccess.{VectorAccess}
+use Rattle.elements.proofs.Shapes.{QuadwordIn, quadword-in}
+use Rattle.elements.proofs.Numbers.{number_is, pers}
+use Rattle.elements.proofs.quadword_access.Goals as goal
+use Rattle.elements.proofs.quadword_access.Goals.{Start}
+
+fields : (a : Start) → QuadwordIn a.args.f (class_for (Quadword a.args.f))
+fields a = quadword-in a.args.f a.requires.0
+
+-- a number of the store's class
+number : (a : Start) (x : Number) (n : ℕ) → n ≡ number_in (class_numbered a.args.f.class) x
+    → n ≡ number_in (class_for (Quadword a.args.f)) x
+number a = number_is (Quadword a.args.f) a.requires.0
+
+pub general-base-requires : goal.general-base-requires
+general-base-requires c = (fields (goal.at.general-base-requires c).Start).rm
+
+pub number_for-quadword-requires : goal.number_for-quadword-requires
+number_for-quadword-requires c = listed (Quadword c.args.f) c.requires.0
+
+pub number_for-size-requires : goal.number_for-size-requires
+number_for-size-requires c = listed (Quadword c.args.f) c.requires.0
+
+pub nonzero_div-result : goal.nonzero_div-result
+nonzero_div-result c =
+    omega (arith, number (goal.at.nonzero_div-result c).Start Step c.number_for-quadword.result c.number_for-quadword.ensures, (fields (goal.at.nonzero_div-result c).Start).sixteen)
+
+pub returns : goal.returns
+returns c =
+    let f = c.args.f in
+    let vb = c.args.vb in
+    let step = number (goal.at.returns c).Start Step c.number_for-quadword.result c.number_for-quadword.ensures in
+    let e : ◌≡◌ {A = VectorAccess} _ (quadword_access (machine vb c.args.x.now 0 [] []) (class_for (Quadword f)) f) =
+    λ i.
+    record {
+      base = c.general-base.ensures i;
+      extension = None;
+      scale = 0;
+      step = step i;
+      size = number (goal.at.returns c).Start Size c.number_for-size.result c.number_for-size.ensures i;
+      count = pers vb (class_for (Quadword f)) (fields (goal.at.returns c).Start).eight c.number_for-quadword.result step i;
+      offsets = f.zn;
+      governing = f.pg;
+      stored = f.zt;
+    } in
+    e

@@ -1,0 +1,11 @@
+-- `copy8`: eight bytes read as a number and put. Assumes nothing.
+use Rattle.endian.proofs.LittleEndian.{bytes-at}
+use Rattle.endian.proofs.Copying.{put-copied}
+use borrow.Author.Rules.{rules}
+use Rattle.endian.proofs.copy8.Goals as goal
+
+pub returns : goal.returns
+returns c =
+    let s = c.args.src.now in
+    put-copied c.args.dst.now s _ c.args.i 8 _ (bytes-at s (λ i. (c.shared_slice_known-1.given i).fits)) c.requires.1
+    c.le64-x.ensures c.put64.ensures

@@ -1,0 +1,21 @@
+-- `starshackle_decode`: by what decoding answers. Assumes nothing.
+use mathlib.Core.Path.{sym, ap, ◌∙◌}
+use Rattle.encoding.specs.Answers.{decoded_number, decoded_numbers}
+use Rattle.starshackle.proofs.starshackle_decode.Goals as goal
+
+pub returns-in-Known : goal.returns-in-Known
+returns-in-Known c =
+    let d = c.decode in
+    let e = sym c.in-Known.is in
+    record {
+      answer = d.result;
+      holds = d.ensures;
+      its_number = ap decoded_number e;
+      its_numbers = c.numbers_of.ensures ∙ ap decoded_numbers e;
+    }
+
+pub returns-in-Undefined : goal.returns-in-Undefined
+returns-in-Undefined c =
+    let d = c.decode in
+    let e = sym c.in-Undefined.is in
+    record { answer = d.result; holds = d.ensures; its_number = ap decoded_number e; its_numbers = ap decoded_numbers e }
