@@ -210,7 +210,7 @@ CodecReturns = (decoded_numbers D.Undefined ≡ replicate 8 0) × (encoded_answe
 
 pub record Demand2 : Type 0 where
   -- "Decoding accepts exactly the twelve classes of document 01", of which document 02 says: "Demand 2 now reads twenty-four classes" (i),
-  -- "demand 2 reads thirty_six classes" (vii): a word belongs to a class by its bits, to no two of them
+  -- "demand 2 reads thirty-six classes" (vii): a word belongs to a class by its bits, to no two of them
   pub thirty_six : length classes ≡ 36
   -- (i)'s twelve are "the pattern of classes 1 to 7" at two more widths, (vii)'s twelve "the forms of 8 to 11" at three more
   pub scatter_widths : ScatterWidths

@@ -173,7 +173,7 @@ quadword = D.Known (Quadword (record { class = 12; rm = 0; pg = 0; zn = 1; zt = 
 
 unfoldable pub cases : List Case
 cases =
-    -- "A16F6000: multiple −2; with base 1000h it starts at 0_fE0h."
+    -- "A16F6000: multiple −2; with base 1000h it starts at 0FE0h."
     case 0xA16F6000 streaming full 0x0FE0 32 (strided 10 (negsuc 1) 0) (Done 4 32 48 1) (rows 0 ++ rows 8) 0
     -- "A168E000: multiple −32."
     ∷ case 0xA168E000 streaming full 0x0E00 64 (strided 11 (negsuc 31) 0) (Done 8 64 80 1) (rows 0 ++ (rows 4 ++ (rows 8 ++ rows 12))) 0
@@ -183,10 +183,10 @@ cases =
     ∷ case 0xA120E004 streaming full 0x1000 8 D.Undefined (Refused Undefined) (replicate 8 0) 0
     ∷ case 0xA1206008 streaming full 0x1000 8 D.Undefined (Refused Undefined) (replicate 8 0) 0
     ∷ case 0xE4208000 plain full 0x1000 8 D.Undefined (Refused Undefined) (replicate 8 0) 0
-    -- "Class 2, base 1000h, offset element with low half FFFFFFF8h: SXTW gives 0_fF8h, UXTW 100000_fF8h."
+    -- "Class 2, base 1000h, offset element with low half FFFFFFF8h: SXTW gives 0FF8h, UXTW 100000FF8h."
     ∷ case 0xE581C000 plain (on low 0 0) 0 0 (scatter 2 Sxtw) (Refused (Fault 0 0x0FF8)) [] 0
     ∷ case 0xE5818000 plain (on low 0 0) 0 0 (scatter 2 Uxtw) (Refused (Fault 0 0x100000FF8)) [] 0
-    -- "Class 1 with UXTW gives 800000_fC0h."
+    -- "Class 1 with UXTW gives 800000FC0h."
     ∷ case 0xE5A18000 plain (on low 0 0) 0 0 (scatter 1 Uxtw) (Refused (Fault 0 0x800000FC0)) [] 0
     -- "Class 3, base 1000h, offset 2000000000000001h: address 1008h."
     ∷ case 0xE5A1A000 plain (on high 0 0) 0x1008 8 (scatter 3 None) (Done 1 8 24 1) (take 8 (rows 0)) 0
@@ -207,7 +207,7 @@ cases =
     ∷ case 0xE4E1C000 plain (on low 0 0) 0x0FF0 4 (scatter 17 Sxtw) (Done 1 2 18 1) (placed_at 4 0 (take 2 (rows 0))) 0
     -- the "64-bit scaled" form of words: 2000000000000001h times 4
     ∷ case 0xE521A000 plain (on high 0 0) 0x1004 4 (scatter 21 None) (Refused (Fault 0 0x8000000000001004)) (replicate 4 0) 0
-    -- document 02 (vii): "A byte store under a halfword counter writes every second byte": 000_ah counts two, bytes 0 and 2
+    -- document 02 (vii): "A byte store under a halfword counter writes every second byte": 000Ah counts two, bytes 0 and 2
     ∷ case 0xA1600000 streaming (on zeros 0x0A 0x00) 0x1000 4 (strided 27 (pos 0) 0) (Done 2 2 30 2) (1 ∷ 0 ∷ 3 ∷ 0 ∷ []) 2
     -- a halfword store under a byte counter, one stretch: 0007h counts three bytes, so two halfwords
     ∷ case 0xA1602000 streaming (on zeros 0x07 0x00) 0x1000 4 (strided 31 (pos 0) 0) (Done 2 4 20 1) (take 4 (rows 0)) 3

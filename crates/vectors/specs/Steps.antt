@@ -1,5 +1,5 @@
 -- Scatter and quadword stores from their keys on. For the contracts of the code's own functions. Assumes nothing.
-use Rattle.std.specs.Prelude.{ℕ, ◌+◌, ◌*◌, ◌^◌, ◌≤◌, List, [], ◌∷◌, true, ◌≡◌, length}
+use Rattle.std.specs.Prelude.{ℕ, ◌+◌, ◌*◌, ◌^◌, ◌≤◌, List, true, ◌≡◌, length}
 use Rattle.std.proofs.Math.Option.{none}
 use Rattle.writes.specs.Elements.{Element}
 use Rattle.elements.specs.Accesses.{is_width}
