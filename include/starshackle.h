@@ -2,7 +2,7 @@
  * Starshackle: a proved model of Arm's predicated vector stores (SVE scatter and SME2 strided ST1B, ST1H, ST1W and ST1D,
  * SVE2p1 ST1Q).
  *
- * Link with libstarshackle.a, which `rt staticlib starshackle` makes. It needs nothing but the C library.
+ * Link with libstarshackle.a, which `tools/archive` makes. It needs nothing but the C library.
  *
  * Every function answers a verdict's number, and writes all entries of the array that it is lent for its answer (`answer` or
  * `fields`), whatever the verdict. Every verdict but STARSHACKLE_DONE is a refusal: then memory, patch and list are as they came.

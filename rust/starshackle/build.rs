@@ -15,7 +15,7 @@ fn main() {
     let folder = named().or_else(made).or_else(installed).unwrap_or_else(|| {
         fail(&format!(
             "No {ARCHIVE} is found.\n\
-            Run `rt staticlib starshackle` in the repository's root to make it, or name its folder \
+            Run `tools/archive` in the repository's root to make it, or name its folder \
             by {VARIABLE}, or install it where pkg-config finds it."
         ))
     });

@@ -226,6 +226,7 @@ fn a_link_stays_a_link() {
     assert!(fs::symlink_metadata(folder.join("link")).unwrap().file_type().is_symlink());
     assert_eq!(fs::read(folder.join("file")).unwrap().len(), 31);
     assert_eq!(names(&folder), ["file", "link"]);
+    fs::remove_dir_all(&folder).unwrap(); // `rt ci` takes no links below the repository
 }
 
 /// A limit on the sizes of files refuses bytes as a full disk does.

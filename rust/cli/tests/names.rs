@@ -117,4 +117,5 @@ fn links_to_nothing() {
     }
     assert_eq!(fs::read_dir(&folder).unwrap().count(), 5);
     assert_eq!(fs::read_dir(folder.join("inner")).unwrap().count(), 2);
+    fs::remove_dir_all(&folder).unwrap(); // `rt ci` takes no links below the repository
 }

@@ -1,6 +1,6 @@
 //! Arm's predicated vector stores: the proved model, from Rust.
 //!
-//! The model is the static library that `rt staticlib starshackle` makes, and what is proved is
+//! The model is the static library that `tools/archive` makes, and what is proved is
 //! said of it. This crate gives its numbers types and adds nothing else; no `unsafe` is needed to
 //! use it. A call answers what it did, or a [`Refusal`] with document 01's number and name. A
 //! refused call has written nothing.
