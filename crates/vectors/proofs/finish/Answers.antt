@@ -90,7 +90,7 @@ due strict p q f e t g = let b = both strict q (sym e ∙ t) in (b.0, sym g ∙ 
 pub lowest-k-requires : goal.lowest-k-requires
 lowest-k-requires c =
     let o = (goal.at.lowest-k-requires c).After-join_in_order-m in
-    (c.requires.1.in_array, (due _ _ _ _ c.overlaps.ensures c.if-overlaps.true (parted-is o)).1)
+    (c.requires.1.in_array, (due c.args.strict _ _ _ c.overlaps.ensures c.if-overlaps.true (parted-is o)).1)
 
 pub overflow_add-result : goal.overflow_add-result
 overflow_add-result c =
@@ -100,7 +100,7 @@ overflow_add-result c =
 pub returns-then-overlaps : goal.returns-then-overlaps
 returns-then-overlaps c =
     let o = (goal.at.returns-then-overlaps c).After-join_in_order-m in
-    let t = due _ _ _ _ c.overlaps.ensures c.if-overlaps.true (parted-is o) in
+    let t = due c.args.strict _ _ _ c.overlaps.ensures c.if-overlaps.true (parted-is o) in
     λ es R.
     ready-overlap _ _ _ c.args.memory.now _ _ _ es R _ c.lowest-k.ensures _ t.0 _ _ _ (omega arith)
     (omega (arith, c.start_of.ensures.0))
