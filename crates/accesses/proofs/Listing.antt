@@ -1,4 +1,5 @@
 -- Lists of active elements: one more, and a store's list as its access's. Assumes nothing.
+use Rattle.std.specs.Prelude.{Option, Some, None}
 use mathlib.Core.Path.{◌≡◌, refl, sym, ap, ap₂, ◌∙◌}
 use mathlib.Core.Bool.{Bool, true, false, cond, ◌&&◌}
 use mathlib.Core.List.{List, [], ◌∷◌}
@@ -17,7 +18,7 @@ use borrow.Author.Tests.{eqb-true, eqb-false}
 use Rattle.encoding.specs.Classes.{Class}
 use Rattle.encoding.specs.Encoding.{class_for}
 use Rattle.encoding.specs.declared.Extension.{Extension}
-use Rattle.encoding.specs.declared.Extension.TheVariants.{None, Uxtw, Sxtw}
+use Rattle.encoding.specs.declared.Extension.TheVariants.{Uxtw, Sxtw}
 use Rattle.encoding.specs.declared.ScatterFields.{ScatterFields}
 use Rattle.encoding.specs.declared.StridedFields.{StridedFields}
 use Rattle.encoding.specs.declared.QuadwordFields.{QuadwordFields}
@@ -96,11 +97,11 @@ low-bytes (suc k) (suc n) (x ∷ l) h b =
     ∙ ap (λ (y : ℕ). y * 256 + x) ih
     ∙ omega arith
 
-offset-is : (x : Extension) (n at : ℕ) (reg : List ℕ) → (x ≡ None → n ≡ 8) → 4 ≤ n → Bytes reg
+offset-is : (x : Option Extension) (n at : ℕ) (reg : List ℕ) → (x ≡ None → n ≡ 8) → 4 ≤ n → Bytes reg
     → offset_of x (le_val (take n (drop at reg))) ≡ offset_from x reg at
 offset-is None n at reg f h b = ap (λ (k : ℕ). le_val (take k (drop at reg))) (f refl)
-offset-is Uxtw n at reg f h b = low-bytes 4 n (drop at reg) h (bytes_drop at reg b)
-offset-is Sxtw n at reg f h b = ap signed32 (low-bytes 4 n (drop at reg) h (bytes_drop at reg b))
+offset-is (Some Uxtw) n at reg f h b = low-bytes 4 n (drop at reg) h (bytes_drop at reg b)
+offset-is (Some Sxtw) n at reg f h b = ap signed32 (low-bytes 4 n (drop at reg) h (bytes_drop at reg b))
 
 -- ---- a store's elements are its access's
 

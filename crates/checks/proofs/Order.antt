@@ -1,4 +1,5 @@
 -- The table's lines in their order: what is decided once the first of them don't hold. Assumes nothing.
+use Rattle.std.specs.Prelude.{Option, Err}
 use mathlib.Core.Path.{◌≡◌, refl, sym, ap, ◌∙◌}
 use mathlib.Core.Bool.{Bool, true, false, not, cond, ◌&&◌, ◌||◌}
 use mathlib.Core.List.{List, [], ◌∷◌}
@@ -9,8 +10,8 @@ use lib.Dec.{eqb, leb}
 use lib.ListN.{length}
 use borrow.Author.Tests.{not-false, eqb-true, leb-true}
 use Rattle.encoding.specs.Decoding.{decode_of}
-use Rattle.encoding.specs.declared.Decoded.{Decoded}
 use Rattle.encoding.proofs.Statements.{one_of}
+use Rattle.encoding.specs.declared.Store.{Store}
 use Rattle.writes.specs.Elements.{Element}
 use Rattle.window.specs.Window.{window_ok}
 use Rattle.endian.proofs.Order.{absurdly, told}
@@ -18,13 +19,11 @@ use Rattle.elements.specs.Machine.{Machine}
 use Rattle.elements.specs.Counter.{highest}
 use Rattle.elements.proofs.Highest.{four-times, highest-power}
 use Rattle.verdicts.specs.Verdicts.{elements_for, size_for, one_of_five, length_ok, registers_ok, undefined, illegal_for, stack, stack_for}
-use Rattle.verdicts.specs.Verdicts.{decided}
+use Rattle.verdicts.specs.Verdicts.{decided, Verdict}
 use Rattle.verdicts.specs.Verdicts.{verdict_of}
 use Rattle.checks.specs.Checking.{Sound, concluded}
 use Rattle.verdicts.specs.declared.Flags.{Flags}
 use Rattle.verdicts.specs.declared.Refusal.TheVariants.{Length, Registers, Window, Undefined, Illegal, Stack}
-use Rattle.verdicts.specs.declared.Verdict.{Verdict}
-use Rattle.verdicts.specs.declared.Verdict.TheVariants.{Refused}
 
 -- ---- VB
 
@@ -87,34 +86,34 @@ never-stack f sp s b x e q (y ∷ ys) = sym q ∙ e
 
 -- ---- from 4 on, for what a word decodes to
 
-abbrev pub verdict_for : Flags → Machine → ℕ → ℕ → ℕ → Decoded → Verdict
+abbrev pub verdict_for : Flags → Machine → ℕ → ℕ → ℕ → Option Store → Verdict
 verdict_for f m W L room d =
-    cond (undefined f d) (Refused Undefined)
-    (cond (illegal_for f d) (Refused Illegal)
-    (cond (stack_for f m d) (Refused Stack) (concluded f.strict W L room (size_for d) (elements_for m d))))
+    cond (undefined f d) (Err Undefined)
+    (cond (illegal_for f d) (Err Illegal)
+    (cond (stack_for f m d) (Err Stack) (concluded f.strict W L room (size_for d) (elements_for m d))))
 
 -- ---- from 1 on
 
 module _ (f : Flags) (m : Machine) (W L word : ℕ) where
   abbrev from-3 : ℕ → Verdict
-  from-3 room = cond (not (window_ok W L)) (Refused Window) (verdict_for f m W L room (decode_of word))
+  from-3 room = cond (not (window_ok W L)) (Err Window) (verdict_for f m W L room (decode_of word))
 
   abbrev from-2 : ℕ → Verdict
-  from-2 room = cond (not (registers_ok m)) (Refused Registers) (from-3 room)
+  from-2 room = cond (not (registers_ok m)) (Err Registers) (from-3 room)
 
   -- the test of both buffers
   abbrev misfit : Bool
   misfit = not (eqb (length m.z) (32 * m.vb)) || not (eqb (length m.p) (2 * m.vb))
 
   pub of_length : (b : Bool) → b ≡ length_ok f.early f.streaming m.vb → not b ≡ true → (room : ℕ)
-      → verdict_of f m W L word room ≡ Refused Length
+      → verdict_of f m W L word room ≡ Err Length
   unfolding verdict_of decided
-  of_length b e t room = ap (λ (y : Bool). cond y (Refused Length) (from-2 room)) (ap not (sym e) ∙ t)
+  of_length b e t room = ap (λ (y : Bool). cond y (Err Length) (from-2 room)) (ap not (sym e) ∙ t)
 
   module _ (b : Bool) (e : b ≡ length_ok f.early f.streaming m.vb) (t : not b ≡ false) where
     past-1 : (room : ℕ) → verdict_of f m W L word room ≡ from-2 room
     unfolding verdict_of decided
-    past-1 room = ap (λ (y : Bool). cond y (Refused Length) (from-2 room)) (ap not (sym e) ∙ t)
+    past-1 room = ap (λ (y : Bool). cond y (Err Length) (from-2 room)) (ap not (sym e) ∙ t)
 
     either : (x y : Bool) → not (x && y) ≡ not x || not y
     either true y = refl
@@ -124,8 +123,8 @@ module _ (f : Flags) (m : Machine) (W L word : ℕ) where
     unfolding registers_ok
     registers-by c q = either (eqb (length m.z) (32 * m.vb)) (eqb (length m.p) (2 * m.vb)) ∙ q
 
-    pub of-registers : misfit ≡ true → (room : ℕ) → verdict_of f m W L word room ≡ Refused Registers
-    of-registers q room = past-1 room ∙ ap (λ (y : Bool). cond y (Refused Registers) (from-3 room)) (registers-by true q)
+    pub of-registers : misfit ≡ true → (room : ℕ) → verdict_of f m W L word room ≡ Err Registers
+    of-registers q room = past-1 room ∙ ap (λ (y : Bool). cond y (Err Registers) (from-3 room)) (registers-by true q)
 
     module _ (r : misfit ≡ false) where
       pub sound : Sound m.vb m.z m.p
@@ -146,14 +145,14 @@ module _ (f : Flags) (m : Machine) (W L word : ℕ) where
           both false y q = absurdly cc
 
       past-2 : (room : ℕ) → verdict_of f m W L word room ≡ from-3 room
-      past-2 room = past-1 room ∙ ap (λ (y : Bool). cond y (Refused Registers) (from-3 room)) (registers-by false r)
+      past-2 room = past-1 room ∙ ap (λ (y : Bool). cond y (Err Registers) (from-3 room)) (registers-by false r)
 
       by-window : (d c : Bool) → d ≡ window_ok W L → not d ≡ c → (room : ℕ)
-          → verdict_of f m W L word room ≡ cond c (Refused Window) (verdict_for f m W L room (decode_of word))
+          → verdict_of f m W L word room ≡ cond c (Err Window) (verdict_for f m W L room (decode_of word))
       by-window d c q u room =
-          past-2 room ∙ ap (λ (y : Bool). cond y (Refused Window) (verdict_for f m W L room (decode_of word))) (ap not (sym q) ∙ u)
+          past-2 room ∙ ap (λ (y : Bool). cond y (Err Window) (verdict_for f m W L room (decode_of word))) (ap not (sym q) ∙ u)
 
-      pub of-window : (d : Bool) → d ≡ window_ok W L → not d ≡ true → (room : ℕ) → verdict_of f m W L word room ≡ Refused Window
+      pub of-window : (d : Bool) → d ≡ window_ok W L → not d ≡ true → (room : ℕ) → verdict_of f m W L word room ≡ Err Window
       of-window d q u = by-window d true q u
 
       pub of-decoded : (d : Bool) → d ≡ window_ok W L → not d ≡ false → (room : ℕ)

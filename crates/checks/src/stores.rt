@@ -2,16 +2,15 @@
 ghost use Rattle.std.specs.Prelude.{◌≡◌, true, false, List, ℕ, ◌*◌, ◌/◌, ◌%◌, ◌^◌, ◌≤◌, length};
 ghost use Rattle.encoding.specs.Encoding.{feature_of, refused};
 ghost use Rattle.encoding.specs.declared.Feature.TheVariants.{SME2};
-ghost use Rattle.endian.specs.LittleEndian.{Bytes};
-ghost use Rattle.elements.specs.Machine.{machine};
+ghost use Rattle.elements.specs.Machine.{lent};
 ghost use Rattle.elements.specs.Counter.{highest};
 ghost use Rattle.elements.specs.Accesses.{VectorSound, vector_elements, StridedSound, strided_elements};
 ghost use Rattle.verdicts.specs.Verdicts.{on_stack, some_active, stack};
 ghost use Rattle.checks.specs.Checking.{Sound, AccessSound, access_for, elements_in, checked_for};
 
-use super::Checked;
+use super::Access;
 use conditions::{is_illegal, is_off, is_stack};
-use elements::{StridedAccess, VectorAccess};
+use elements::{Machine, StridedAccess, VectorAccess};
 use encoding::{Feature, Store};
 use verdicts::{Flags, Refusal};
 
@@ -21,13 +20,10 @@ fn some_vector(v: VectorAccess, vb: usize, governing: &[u8]) -> bool
     requires governing_len { length governing.now ≡ vb / 8 }
     ensures { (offsets stored : List ℕ) → result ≡ some_active (vector_elements v offsets governing.now stored) }
 {
-    let count = v.count;
-    let mut e: usize = 0;
-    while e < count {
-        if elements::vector_active(v, governing, e) {
+    for e in 0..v.count {
+        if v.is_active(governing, e) {
             return true;
         }
-        e += 1;
     }
     false
 }
@@ -82,75 +78,59 @@ fn is_on_stack(store: Store) -> bool
 }
 
 // What a store's elements have in common. A counter is read only where VB is a power of two.
-fn access_for(store: Store, vb: usize, x: &[u64; 31], sp: u64, p: &[u8]) -> Checked
+fn access_for(store: Store, machine: Machine) -> Access
     requires store_value { refused store ≡ false }
-    requires le_vb { (16 ≤ vb) × (vb ≤ 256) × (length p.now ≡ 2 * vb) × (feature_of store ≡ SME2 → 4 * vb ≡ 2 ^ highest vb) }
-    ensures { (z : List ℕ) → result ≡ access_for (machine vb x.now sp z p.now) store }
+    requires le_vb { (16 ≤ machine.vb) × (machine.vb ≤ 256) × (length machine.p.now ≡ 2 * machine.vb)
+        × (feature_of store ≡ SME2 → 4 * machine.vb ≡ 2 ^ highest machine.vb) }
+    ensures { result ≡ access_for (lent machine.entry) store }
 {
+    let Machine { vb, x, sp, z: _, p } = machine;
     match store {
-        Store::Scatter(f) => Checked::Vector {
-            access: elements::scatter_access(f, vb, x, sp),
-        },
+        Store::Scatter(f) => Access::Vector(elements::scatter_access(f, vb, x, sp)),
         Store::Strided(f) => {
             let start = elements::start_of(f, vb, x, sp);
             let range = counters::range_for(f, vb, p);
-            Checked::Strided {
-                access: elements::strided_access(f, start, range),
-            }
+            Access::Strided(elements::strided_access(f, start, range))
         }
-        Store::Quadword(f) => Checked::Vector {
-            access: elements::quadword_access(f, vb, x),
-        },
+        Store::Quadword(f) => Access::Vector(elements::quadword_access(f, vb, x)),
     }
 }
 
 // Whether the stack check refuses a store, by its access.
-fn is_stack_for(access: Checked, vb: usize, p: &[u8], on_stack: bool, flags: Flags, sp: u64) -> bool
-    requires access_sound { AccessSound access vb }
-    requires vb_value { (vb % 16 ≡ 0) × (length p.now ≡ 2 * vb) }
-    ensures { (z : List ℕ) → result ≡ stack flags sp on_stack (elements_in access vb z p.now) }
+fn is_stack_for(access: Access, machine: Machine, on_stack: bool, flags: Flags) -> bool
+    requires access_sound { AccessSound access machine.vb }
+    requires vb_value { (machine.vb % 16 ≡ 0) × (length machine.p.now ≡ 2 * machine.vb) }
+    ensures { result ≡ stack flags machine.entry.sp on_stack
+        (elements_in access machine.entry.vb machine.entry.z.now machine.entry.p.now) }
 {
+    let Machine { vb, sp, .. } = machine;
     match access {
-        Checked::Vector { access } => {
-            let governing = elements::register_of(p, vb / 8, access.governing);
-            stack_vector(access, vb, governing, on_stack, flags, sp)
+        Access::Vector(v) => {
+            let governing = elements::register_of(machine.p, vb / 8, v.governing);
+            stack_vector(v, vb, governing, on_stack, flags, sp)
         }
-        Checked::Strided { access } => stack_strided(access, vb, on_stack, flags, sp),
-        Checked::Refused { refusal: _ } => false,
+        Access::Strided(s) => stack_strided(s, vb, on_stack, flags, sp),
     }
 }
 
 // From verdict 4 on, for a decoded store.
-pub fn check_store(
-    store: Store,
-    flags: Flags,
-    vb: usize,
-    x: &[u64; 31],
-    sp: u64,
-    p: &[u8],
-) -> Checked
+pub fn check_store(store: Store, flags: Flags, machine: Machine) -> Result<Access, Refusal>
     requires store_value { refused store ≡ false }
-    requires le_vb { (16 ≤ vb) × (vb ≤ 256) × (vb % 16 ≡ 0) × (length p.now ≡ 2 * vb)
-        × (flags.streaming ≡ true → 4 * vb ≡ 2 ^ highest vb) }
-    ensures { (z : List ℕ) → Sound vb z p.now → Bytes z
-        → result ≡ checked_for flags (machine vb x.now sp z p.now) store }
+    requires le_vb { (16 ≤ machine.vb) × (machine.vb ≤ 256) × (machine.vb % 16 ≡ 0) × (length machine.p.now ≡ 2 * machine.vb)
+        × (flags.streaming ≡ true → 4 * machine.vb ≡ 2 ^ highest machine.vb) }
+    ensures { Sound machine.entry.vb machine.entry.z.now machine.entry.p.now
+        → result ≡ checked_for flags (lent machine.entry) store }
 {
     let feature = feature_for(store);
     if is_off(flags, feature) {
-        return Checked::Refused {
-            refusal: Refusal::Undefined,
-        };
+        return Err(Refusal::Undefined);
     }
     if is_illegal(flags, feature) {
-        return Checked::Refused {
-            refusal: Refusal::Illegal,
-        };
+        return Err(Refusal::Illegal);
     }
-    let access = access_for(store, vb, x, sp, p);
-    if is_stack_for(access, vb, p, is_on_stack(store), flags, sp) {
-        return Checked::Refused {
-            refusal: Refusal::Stack,
-        };
+    let access = access_for(store, machine);
+    if is_stack_for(access, machine, is_on_stack(store), flags) {
+        return Err(Refusal::Stack);
     }
-    access
+    Ok(access)
 }

@@ -1,31 +1,15 @@
 -- The store that eight entries give, and when there is none. Assumes nothing.
-use Rattle.std.proofs.Common.{◌≡◌, ℕ, suc, ◌+◌, ◌-◌, ◌%◌, ◌^◌, ◌<◌, ◌≤◌, Bool, true, false, cond, not, ◌||◌, T, eqb, ltb, List, [], ◌∷◌, pos, negsuc, sym, refl, ap, ◌∙◌, subst, true≢false, arith, eqb→eq, ltb→lt, lt→ltb, w64, to_z, ltb-false, ltb-true, le-ltb, lt-ltb, eq-eqb, ne_eqb}
+use Rattle.std.proofs.Common.{◌≡◌, ℕ, suc, ◌+◌, ◌-◌, ◌%◌, ◌^◌, ◌<◌, ◌≤◌, Bool, true, false, cond, not, ◌||◌, T, eqb, ltb, List, [], ◌∷◌, pos, negsuc, sym, refl, ap, ◌∙◌, subst, true≢false, arith, eqb→eq, ltb→lt, lt→ltb, w64, to_z, ltb-false, ltb-true, le-ltb, lt-ltb, eq-eqb, ne_eqb, Option, Some, None}
 use lib.Signed.{mag}
 use mir.Val.{sel}
 use Rattle.encoding.specs.declared.Feature.{Feature}
 use Rattle.encoding.specs.declared.Feature.TheVariants.{SVE, SME2, SVE2p1}
 use Rattle.encoding.specs.Encoding.{encode_of}
-use Rattle.encoding.specs.declared.Extension.TheVariants.{None, Uxtw, Sxtw}
 use Rattle.encoding.specs.declared.Store.{Store}
-use Rattle.encoding.specs.declared.Encoded.{Encoded}
-use Rattle.encoding.specs.declared.Encoded.TheVariants.{Word, Fields}
 use Rattle.encoding.proofs.Tests.{every, holds, fails, cond-true, cond-false, Facts, facts, told, telling}
 use Rattle.encoding.proofs.Narrow.{encoded-narrow}
-use Rattle.codec.specs.Codec.{entry, extension_given, store_given, surplus, misgiven, feature_given, encode_given}
+use Rattle.codec.specs.Codec.{entry, store_given, surplus, misgiven, feature_given, encode_given}
 use Rattle.codec.specs.Narrow.{signed_byte, narrow, Narrow}
-
--- ---- extensions
-
-pub given-none : (n : ℕ) → n ≡ 0 → None ≡ extension_given n
-given-none n e = sym (ap (λ (b : Bool). cond b None (cond (eqb n 1) Uxtw Sxtw)) (eq-eqb n 0 e))
-
-pub given-uxtw : (n : ℕ) → (n ≡ 0 → ⊥) → n ≡ 1 → Uxtw ≡ extension_given n
-given-uxtw n f e =
-    sym (ap (λ (b : Bool). cond b None (cond (eqb n 1) Uxtw Sxtw)) (ne_eqb n 0 f) ∙ ap (λ (b : Bool). cond b Uxtw Sxtw) (eq-eqb n 1 e))
-
-pub given-sxtw : (n : ℕ) → (n ≡ 0 → ⊥) → (n ≡ 1 → ⊥) → Sxtw ≡ extension_given n
-given-sxtw n f g =
-    sym (ap (λ (b : Bool). cond b None (cond (eqb n 1) Uxtw Sxtw)) (ne_eqb n 0 f) ∙ ap (λ (b : Bool). cond b Uxtw Sxtw) (ne_eqb n 1 g))
 
 -- ---- entries that give no store
 
@@ -107,7 +91,7 @@ module _ (es : List ℕ) where
   zero-signed : T (eqb (entry es 6) 0) → T (signed_byte (entry es 6))
   zero-signed t = subst (λ (n : ℕ). T (signed_byte n)) (sym (eqb→eq (entry es 6) 0 t)) tt
 
-  word-narrow : (x : Feature) → misgiven x es ≡ false → (w : ℕ) → encode_of (store_given x es) ≡ Word w → T (narrow es)
+  word-narrow : (x : Feature) → misgiven x es ≡ false → (w : ℕ) → encode_of (store_given x es) ≡ Some w → T (narrow es)
   unfolding every
   word-narrow SVE m w e =
       let n = encoded-narrow (store_given SVE es) w e in
@@ -132,13 +116,13 @@ module _ (es : List ℕ) where
 
 -- ---- what encoding the entries answers
 
-refused-too : (b : Bool) (e : Encoded) → (T b → ⊥) → (c : Bool) → (c ≡ false → (w : ℕ) → e ≡ Word w → T b) → Fields ≡ cond c Fields e
+refused-too : (b : Bool) (e : Option ℕ) → (T b → ⊥) → (c : Bool) → (c ≡ false → (w : ℕ) → e ≡ Some w → T b) → None ≡ cond c None e
 refused-too b e f true g = refl
-refused-too b (Word w) f false g = absurd (f (g refl w refl))
-refused-too b Fields f false g = refl
+refused-too b (Some w) f false g = absurd (f (g refl w refl))
+refused-too b None f false g = refl
 
 module _ (es : List ℕ) where
-  pub given-wide : (b : Bool) → b ≡ narrow es → b ≡ false → Fields ≡ encode_given es
+  pub given-wide : (b : Bool) → b ≡ narrow es → b ≡ false → None ≡ encode_given es
   unfolding encode_given
   given-wide b e t =
       let x = feature_given es in
@@ -148,15 +132,15 @@ module _ (es : List ℕ) where
     is : b ≡ misgiven (feature_given es) es
     is = f ∙ ap (λ (y : Feature). misgiven y es) e
 
-    pub given-misgiven : b ≡ true → Fields ≡ encode_given es
+    pub given-misgiven : b ≡ true → None ≡ encode_given es
     unfolding encode_given
     given-misgiven t =
-        sym (cond-true (misgiven (feature_given es) es) Fields (encode_of (store_given (feature_given es) es)) (holds (sym is ∙ t)))
+        sym (cond-true (misgiven (feature_given es) es) None (encode_of (store_given (feature_given es) es)) (holds (sym is ∙ t)))
 
-    pub given-store : b ≡ false → (y : Feature) → x ≡ y → (s : Store) → s ≡ store_given y es → (r : Encoded) → r ≡ encode_of s
+    pub given-store : b ≡ false → (y : Feature) → x ≡ y → (s : Store) → s ≡ store_given y es → (r : Option ℕ) → r ≡ encode_of s
         → r ≡ encode_given es
     unfolding encode_given
     given-store t y g s p r q =
         q
         ∙ ap encode_of (p ∙ ap (λ (z : Feature). store_given z es) (sym g ∙ e))
-        ∙ sym (cond-false (misgiven (feature_given es) es) Fields (encode_of (store_given (feature_given es) es)) (fails (sym is ∙ t)))
+        ∙ sym (cond-false (misgiven (feature_given es) es) None (encode_of (store_given (feature_given es) es)) (fails (sym is ∙ t)))

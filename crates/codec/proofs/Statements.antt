@@ -1,5 +1,5 @@
 -- Over the numbers at the interface encoding is decoding's inverse, and 11 has its causes. Assumes nothing.
-use Rattle.std.proofs.Common.{◌≡◌, ℕ, zero, suc, ◌/◌, ◌^◌, ◌<◌, ◌≤◌, Bool, true, false, cond, not, ◌||◌, T, eqb, ltb, ◌⊎◌, List, [], ◌∷◌, length, ℤ, sym, refl, ap, ◌∙◌, subst, inl, inr, true≢false, mod-lt, arith, eqb→eq, w64, SFits, ltb-false, ltb-true, lt-ltb, eq-eqb, ne_eqb}
+use Rattle.std.proofs.Common.{◌≡◌, ℕ, zero, suc, ◌/◌, ◌^◌, ◌<◌, ◌≤◌, Bool, true, false, cond, not, ◌||◌, T, eqb, ltb, ◌⊎◌, List, [], ◌∷◌, length, ℤ, sym, refl, ap, ◌∙◌, subst, inl, inr, true≢false, mod-lt, arith, eqb→eq, w64, SFits, ltb-false, ltb-true, lt-ltb, eq-eqb, ne_eqb, Option, Some, None}
 use mathlib.Core.Bool.{false≢true}
 use mir.Facts.{sfits_widen}
 use mir.ValLaws.{to_z-of_z, of_z-to_z}
@@ -8,12 +8,8 @@ use Rattle.encoding.specs.Decoding.{store_as, store_of, index_of, decode_of}
 use Rattle.encoding.specs.Encoding.{number_of, feature_of, class_numbered, refused, encode_of}
 use Rattle.encoding.specs.Answers.{decoded_number, decoded_numbers, encoded_number, encoded_word, extension_number, store_numbers}
 use Rattle.encoding.specs.Statements.{Caused}
-use Rattle.encoding.specs.declared.Decoded.{Decoded}
-use Rattle.encoding.specs.declared.Decoded.TheVariants.{Known, Undefined}
-use Rattle.encoding.specs.declared.Encoded.{Encoded}
-use Rattle.encoding.specs.declared.Encoded.TheVariants.{Word, Fields}
 use Rattle.encoding.specs.declared.Extension.{Extension}
-use Rattle.encoding.specs.declared.Extension.TheVariants.{None, Uxtw, Sxtw}
+use Rattle.encoding.specs.declared.Extension.TheVariants.{Uxtw, Sxtw}
 use Rattle.encoding.specs.declared.Feature.{Feature}
 use Rattle.encoding.specs.declared.Feature.TheVariants.{SVE, SME2, SVE2p1}
 use Rattle.encoding.specs.declared.Store.{Store}
@@ -28,10 +24,10 @@ use Rattle.codec.specs.Statements.{EncodesDecodedNumbers, DecodesEncodedNumbers,
 
 -- ---- a store's numbers give it back
 
-extension-back : (e : Extension) → extension_given (extension_number e) ≡ e
+extension-back : (e : Option Extension) → extension_given (extension_number e) ≡ e
 extension-back None = refl
-extension-back Uxtw = refl
-extension-back Sxtw = refl
+extension-back (Some Uxtw) = refl
+extension-back (Some Sxtw) = refl
 
 -- its multiple has 64 bits
 abbrev Bits : Store → Type 0
@@ -41,17 +37,17 @@ Bits (Quadword f) = Unit {0}
 
 given_back : (s : Store) → Bits s → store_given (feature_of s) (store_numbers s) ≡ s
 given_back (Scatter f) b =
-    ap (λ (e : Extension). Scatter (record { class = f.class; zm = f.zm; extension = e; pg = f.pg; rn = f.rn; zt = f.zt }))
+    ap (λ (e : Option Extension). Scatter (record { class = f.class; zm = f.zm; extension = e; pg = f.pg; rn = f.rn; zt = f.zt }))
     (extension-back f.extension)
 given_back (Strided f) b =
     ap (λ (z : ℤ). Strided (record { class = f.class; rm = f.rm; multiple = z; pc = f.pc; rn = f.rn; first = f.first }))
     (to_z-of_z w64 f.multiple b)
 given_back (Quadword f) b = refl
 
-extension-small : (e : Extension) → ltb 2 (extension_number e) ≡ false
+extension-small : (e : Option Extension) → ltb 2 (extension_number e) ≡ false
 extension-small None = refl
-extension-small Uxtw = refl
-extension-small Sxtw = refl
+extension-small (Some Uxtw) = refl
+extension-small (Some Sxtw) = refl
 
 well-given : (s : Store) → misgiven (feature_of s) (store_numbers s) ≡ false
 well-given (Scatter f) = ap (λ (b : Bool). b || false) (extension-small f.extension)
@@ -74,8 +70,8 @@ given-numbers : (s : Store) → refused s ≡ false → Bits s → encode_given 
 unfolding encode_given
 given-numbers s r b =
     let es = store_numbers s in
-    ap (λ (x : Feature). cond (misgiven x es) Fields (encode_of (store_given x es))) (feature-given s r)
-    ∙ ap (λ (t : Bool). cond t Fields (encode_of (store_given (feature_of s) es))) (well-given s)
+    ap (λ (x : Feature). cond (misgiven x es) None (encode_of (store_given x es))) (feature-given s r)
+    ∙ ap (λ (t : Bool). cond t None (encode_of (store_given (feature_of s) es))) (well-given s)
     ∙ ap encode_of (given_back s b)
 
 -- a decoded store's multiple is one of imm4's
@@ -87,7 +83,7 @@ bits-as SVE c w s = tt
 bits-as SME2 c w s = sfits_widen tt (multiple-fits c.nreg (read c imm4 w) s.nreg (read_small c w s))
 bits-as SVE2p1 c w s = tt
 
-bits-decoded : (w : ℕ) (s : Store) → decode_of w ≡ Known s → Bits s
+bits-decoded : (w : ℕ) (s : Store) → decode_of w ≡ Some s → Bits s
 unfolding store_of
 bits-decoded w s e =
     let t = decoded-index w s e in
@@ -96,17 +92,17 @@ bits-decoded w s e =
 
 -- ---- decoding, then encoding
 
-known-or-not : (d : Decoded) → decoded_number d ≡ 0 → (s : Store) × (d ≡ Known s)
-known-or-not (Known s) e = (s, refl)
-known-or-not Undefined e = absurd (omega (arith, e))
+known-or-not : (d : Option Store) → decoded_number d ≡ 0 → (s : Store) × (d ≡ Some s)
+known-or-not (Some s) e = (s, refl)
+known-or-not None e = absurd (omega (arith, e))
 
 pub encodes_decoded_numbers : EncodesDecodedNumbers
 encodes_decoded_numbers w h n =
     let k = known-or-not (decode_of w) n in
     let s = k.0 in
     let e = k.1 in
-    let g : encode_given (decoded_numbers (decode_of w)) ≡ Word w =
-    ap (λ (d : Decoded). encode_given (decoded_numbers d)) e
+    let g : encode_given (decoded_numbers (decode_of w)) ≡ Some w =
+    ap (λ (d : Option Store). encode_given (decoded_numbers d)) e
     ∙ given-numbers s (known-accepted w s e) (bits-decoded w s e)
     ∙ encodes_decoded w s h e in
     (ap encoded_number g, ap encoded_answers g)
@@ -159,10 +155,10 @@ module _ (es : List ℕ) (l : length es ≡ 8) (b : (i : ℕ) → entry es i < 2
       (λ i. entry es 0 ∷ entry es 1 ∷ e2 i ∷ entry es 3 ∷ entry es 4 ∷ entry es 5 ∷ e6 i ∷ e7 i ∷ []) ∙ eight es l
 
 -- what encoding the entries answers, by the two tests
-word_of : (m : Bool) (e : Encoded) → encoded_number (cond m Fields e) ≡ 0 → (m ≡ false) × (e ≡ Word (encoded_word (cond m Fields e)))
+word_of : (m : Bool) (e : Option ℕ) → encoded_number (cond m None e) ≡ 0 → (m ≡ false) × (e ≡ Some (encoded_word (cond m None e)))
 word_of true e n = absurd (omega (arith, n))
-word_of false (Word w) n = (refl, refl)
-word_of false Fields n = absurd (omega (arith, n))
+word_of false (Some w) n = (refl, refl)
+word_of false None n = absurd (omega (arith, n))
 
 last_of : (a b : ℕ) → ◌≡◌ {A = List ℕ} (0 ∷ 0 ∷ 0 ∷ 0 ∷ a ∷ []) (0 ∷ 0 ∷ 0 ∷ 0 ∷ b ∷ []) → a ≡ b
 last_of a b e = ap (λ (l : List ℕ). entry l 4) e
@@ -172,17 +168,17 @@ unfolding encode_given
 decodes_encoded_numbers es w l b n a =
     let x = feature_given es in
     let t = word_of (misgiven x es) (encode_of (store_given x es)) n in
-    let q = t.1 ∙ ap Word (last_of (encoded_word (encode_given es)) w a) in
+    let q = t.1 ∙ ap Some (last_of (encoded_word (encode_given es)) w a) in
     let d = decodes_encoded (store_given x es) w q in
     (d.0, ap decoded_number d.1, ap decoded_numbers d.1 ∙ numbers-back es l b x t.0)
 
 -- ---- 11
 
-by-test : (m : Bool) (e : Encoded) → encoded_number (cond m Fields e) ≡ 11 → (m ≡ true) ⊎ (encoded_number e ≡ 11)
+by-test : (m : Bool) (e : Option ℕ) → encoded_number (cond m None e) ≡ 11 → (m ≡ true) ⊎ (encoded_number e ≡ 11)
 by-test true e n = inl refl
 by-test false e n = inr n
 
-test_by : (m : Bool) (e : Encoded) → (m ≡ true) ⊎ (encoded_number e ≡ 11) → encoded_number (cond m Fields e) ≡ 11
+test_by : (m : Bool) (e : Option ℕ) → (m ≡ true) ⊎ (encoded_number e ≡ 11) → encoded_number (cond m None e) ≡ 11
 test_by true e h = refl
 test_by false e (inl h) = absurd (false≢true h)
 test_by false e (inr h) = h

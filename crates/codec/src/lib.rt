@@ -8,16 +8,15 @@ ghost use Rattle.encoding.specs.Answers.{extension_number, store_numbers};
 ghost use Rattle.codec.specs.Codec.{entry, extension_given, store_given, misgiven, encode_given};
 ghost use Rattle.codec.specs.Narrow.{signed_byte, narrow, Narrow};
 
-use encoding::complement::{bits_of, signed_of};
-use encoding::{Encoded, Extension, Feature, QuadwordFields, ScatterFields, Store, StridedFields};
+use encoding::{Extension, Feature, QuadwordFields, ScatterFields, Store, StridedFields};
 
-fn number_of(extension: Extension) -> u64
+fn number_of(extension: Option<Extension>) -> u64
     ensures { result ≡ extension_number extension }
 {
     match extension {
-        Extension::None => 0,
-        Extension::Uxtw => 1,
-        Extension::Sxtw => 2,
+        None => 0,
+        Some(Extension::Uxtw) => 1,
+        Some(Extension::Sxtw) => 2,
     }
 }
 
@@ -75,21 +74,18 @@ pub fn numbers_of(store: Store) -> [u64; 8]
             let extension = f.extension;
             scatter_numbers(f, number_of(extension))
         }
-        Store::Strided(f) => strided_numbers(f, bits_of(f.multiple as i64)),
+        Store::Strided(f) => strided_numbers(f, (f.multiple as i64).cast_unsigned()),
         Store::Quadword(f) => quadword_numbers(f),
     }
 }
 
-fn extension_of(n: u64) -> Extension
+fn extension_of(n: u64) -> Option<Extension>
     ensures { result ≡ extension_given n }
 {
-    if n == 0 {
-        return Extension::None;
-    }
-    if n == 1 {
-        Extension::Uxtw
-    } else {
-        Extension::Sxtw
+    match n {
+        0 => None,
+        1 => Some(Extension::Uxtw),
+        _ => Some(Extension::Sxtw),
     }
 }
 
@@ -97,7 +93,7 @@ fn extension_of(n: u64) -> Extension
 fn is_signed_byte(bits: u64) -> bool
     ensures { result ≡ signed_byte bits }
 {
-    std::num::wrapping_add_u64(bits, 128) < 256
+    bits.wrapping_add(128) < 256
 }
 
 // Whether the entries that a store keeps in a byte fit one.
@@ -150,7 +146,7 @@ fn strided_given(fields: &[u64; 8]) -> StridedFields
     StridedFields {
         class: fields[0] as u8,
         rm: fields[1] as u8,
-        multiple: signed_of(fields[6]) as i8,
+        multiple: fields[6].cast_signed() as i8,
         pc: fields[3] as u8,
         rn: fields[4] as u8,
         first: fields[5] as u8,
@@ -170,16 +166,16 @@ fn quadword_given(fields: &[u64; 8]) -> QuadwordFields
     }
 }
 
-// The word that eight numbers give. Each is compared before it is narrowed.
-pub fn encode_given(fields: &[u64; 8]) -> Encoded
+// The word that eight numbers give; None, verdict 11, where they give none. Each is compared before it is narrowed.
+pub fn encode_given(fields: &[u64; 8]) -> Option<u32>
     ensures { result ≡ encode_given fields.now }
 {
     if !is_narrow(fields) {
-        return Encoded::Fields;
+        return None;
     }
     let feature = encoding::feature_of(fields[0] as u8);
     if is_misgiven(feature, fields) {
-        return Encoded::Fields;
+        return None;
     }
     match feature {
         Feature::SVE => encoder::encode(Store::Scatter(scatter_given(fields))),

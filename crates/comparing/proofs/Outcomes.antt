@@ -2,43 +2,38 @@
 use mathlib.Core.Path.{◌≡◌, refl, sym, ap, ap₂, ◌∙◌, subst}
 use Prim.Native.Nat.{ℕ, suc, ◌*◌, ◌/◌, ◌≤◌, ◌<◌}
 use mathlib.Core.List.{List, [], ◌∷◌, ◌++◌}
-use mathlib.Core.Bool.{Bool, true, false}
+use mathlib.Core.Bool.{true, false}
 use mathlib.Core.Option.{Option, none, some}
 use native.Mathlib.Omega.{arith}
 use lib.ListN.{length, drop}
-use lib.Dec.{eqb}
 use borrow.Author.Tests.{lt-ltb, le-ltb}
+use Rattle.std.specs.Prelude.{Some, None, Ok, Err, is_err}
 use Rattle.endian.specs.LittleEndian.{Bytes}
 use Rattle.endian.proofs.Order.{three, two, absurdly}
 use Rattle.writes.specs.Sets.{ByteWrite}
-use Rattle.patch.specs.Answers.{judged_number}
-use Rattle.patch.specs.Judging.{judged}
+use Rattle.patch.specs.Judging.{Judged, judged}
 use Rattle.patch.specs.Placing.{set_of}
-use Rattle.patch.specs.declared.Judged.{Judged}
-use Rattle.patch.specs.declared.Judged.TheVariants.{Patch, NoPatch as Other}
 use Rattle.patch.proofs.Patches.{patch-one, patch-set, patch-judged, judged-set}
 use Rattle.comparing.specs.Differences.{Sides, sides, Difference, differ, Ascends, listed_at, Lists}
 use Rattle.comparing.specs.Comparing.{numbers_of, IsPatch, NoPatch, Differing, ComparedTo}
 use Rattle.comparing.specs.Merging.{differences, put, lacking, Patches}
-use Rattle.comparing.specs.declared.Compared.TheVariants.{Done, NoRoom, FirstBad, SecondBad}
+use Rattle.comparing.specs.declared.CompareError.TheVariants.{NoRoom, FirstBad, SecondBad}
 use Rattle.comparing.proofs.Merged.{differences-listed, listed_here, listed-there}
 use Rattle.comparing.proofs.Zipping.{put_all}
 
 -- ---- whether a string is a patch
 
-pub is-patch : (s : List ℕ) → Bytes s → (b : Bool) → b ≡ eqb (judged_number (judged s)) 0 → b ≡ true → IsPatch s
-is-patch s hb b e t = go (judged s) refl (sym t ∙ e)
+pub is-patch : (s : List ℕ) → Bytes s → is_err (judged s) ≡ false → IsPatch s
+is-patch s hb e = go (judged s) refl e
   where
-    go : (j : Judged) → judged s ≡ j → true ≡ eqb (judged_number j) 0 → IsPatch s
-    go (Patch k n) q w = (set_of s, (judged-set s k n hb q).0)
-    go (Other k a) q w = absurdly cc
+    go : (j : Judged) → judged s ≡ j → is_err j ≡ false → IsPatch s
+    go (Ok z) q w = (set_of s, (judged-set s z hb q).0)
+    go (Err n) q w = absurdly cc
 
-pub no-patch : (s : List ℕ) → (b : Bool) → b ≡ eqb (judged_number (judged s)) 0 → b ≡ false → NoPatch s
-no-patch s b e f S h = go (judged s) (patch-judged S s h) (sym f ∙ e)
-  where
-    go : (j : Judged) {k n : ℕ} → j ≡ Patch k n → false ≡ eqb (judged_number j) 0 → ⊥
-    go (Patch k n) q w = absurdly cc
-    go (Other k a) q w = absurdly cc
+pub no-patch : (s : List ℕ) → is_err (judged s) ≡ true → NoPatch s
+no-patch s e S h =
+    let w : false ≡ true = ap (λ (j : Judged). is_err j) (sym (patch-judged S s h)) ∙ e in
+    absurdly cc
 
 pub patches : (s t : List ℕ) → IsPatch s → IsPatch t → Patches s t
 patches s t g h = record { one = g.0; two = h.0; first = g.1; second = h.1 }
@@ -59,40 +54,40 @@ differing s t h =
       lists = subst (Lists S T) e (differences-listed S T h.first.within.set h.second.within.set);
     }
 
-pub compare-first : (s t l : List ℕ) → NoPatch s → ComparedTo s t l FirstBad l
+pub compare-first : (s t l : List ℕ) → NoPatch s → ComparedTo s t l (Err FirstBad) l
 unfolding ComparedTo
 compare-first s t l h = (h, refl)
 
-pub compare-second : (s t l : List ℕ) → IsPatch s → NoPatch t → ComparedTo s t l SecondBad l
+pub compare-second : (s t l : List ℕ) → IsPatch s → NoPatch t → ComparedTo s t l (Err SecondBad) l
 unfolding ComparedTo
 compare-second s t l g h = (g, h, refl)
 
 -- what is lacking, and that nothing is
-pub lacking-some : (m n : ℕ) → m < 3 * n → n ≡ lacking m n
+pub lacking-some : (m n : ℕ) → m < 3 * n → Some n ≡ lacking m n
 unfolding lacking
 lacking-some m n h = simp (lt-ltb m (3 * n) h)
 
-pub lacking-none : (m n : ℕ) → 3 * n ≤ m → 0 ≡ lacking m n
+pub lacking-none : (m n : ℕ) → 3 * n ≤ m → None ≡ lacking m n
 unfolding lacking
 lacking-none m n h = simp (le-ltb m (3 * n) h)
 
-pub lacks-some : (m n r : ℕ) → r ≡ lacking m n → 0 < r → (r ≡ n) × (m < 3 * n)
-lacks-some m n r e h =
-    two m (3 * n) (λ l. (e ∙ sym (lacking-some m n l), l)) (λ l. absurd (omega (arith, e, lacking-none m n l)))
+pub lacks-some : (m n r : ℕ) → Some r ≡ lacking m n → (r ≡ n) × (m < 3 * n)
+lacks-some m n r e =
+    two m (3 * n) (λ l. let w = e ∙ sym (lacking-some m n l) in ((cc), l)) (λ l. let w = e ∙ sym (lacking-none m n l) in absurdly cc)
 
-pub lacks-none : (m n r : ℕ) → r ≡ lacking m n → r ≤ 0 → 3 * n ≤ m
-lacks-none m n r e h = two m (3 * n) (λ l. absurd (omega (arith, e, lacking-some m n l))) (λ l. l)
+pub lacks-none : (m n : ℕ) → None ≡ lacking m n → 3 * n ≤ m
+lacks-none m n e = two m (3 * n) (λ l. let w = e ∙ sym (lacking-some m n l) in absurdly cc) (λ l. l)
 
 pub thirds : (m n : ℕ) → m ≡ 3 * n → m / 3 ≡ n
 thirds m n e = omega arith
 
 pub compare-short : (s t l : List ℕ) (n : ℕ) → Patches s t → n ≡ length (differences (set_of s) (set_of t)) → length l < 3 * n
-    → ComparedTo s t l (NoRoom n) l
+    → ComparedTo s t l (Err (NoRoom n)) l
 unfolding ComparedTo
 compare-short s t l n h e m = ((differences (set_of s) (set_of t), differing s t h, e), m, refl)
 
 pub compare-done : (s t l l' : List ℕ) (n : ℕ) → Patches s t → n ≡ length (differences (set_of s) (set_of t)) → 3 * n ≤ length l
-    → l' ≡ put 0 l (differences (set_of s) (set_of t)) → ComparedTo s t l (Done n) l'
+    → l' ≡ put 0 l (differences (set_of s) (set_of t)) → ComparedTo s t l (Ok n) l'
 unfolding ComparedTo
 compare-done s t l l' n h e m el =
     let D = differences (set_of s) (set_of t) in (

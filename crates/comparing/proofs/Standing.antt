@@ -6,13 +6,14 @@ use native.Mathlib.Omega.{arith}
 use native.Mathlib.Nat.{add-zero}
 use lib.ListN.{length, take, drop, length-drop}
 use lib.Seq.{drop-drop, take-nil}
+use Rattle.std.specs.Prelude.{Some, None}
 use Rattle.writes.specs.Sets.{ByteWrite, write, Run, run, runs, writes_at, writes_of}
 use Rattle.writes.specs.Sizes.{max_runs}
 use Rattle.endian.proofs.Order.{absurdly}
 use Rattle.endian.proofs.Parts.{length_part}
 use Rattle.reading.specs.Reader.{past, step_at, Stands, Found, whole, broken, before, on_step, scan, from, read_at}
 use Rattle.reading.specs.Stops.{runs_in}
-use Rattle.reading.specs.declared.Step.TheVariants.{Next, End, Bad}
+use Rattle.reading.specs.declared.Step.TheVariants.{Next, End}
 use Rattle.reading.specs.declared.Cursor.{Cursor}
 use Rattle.reading.proofs.Loops.{rest, rest-step}
 use Rattle.reading.proofs.Steps.{step-next-inv}
@@ -34,7 +35,7 @@ never-whole rs rs' a e q = absurdly cc
 -- where the steps end at a trailer, none is bad
 pub stands : (s : List ℕ) (c : Cursor) → c.runs ≤ max_runs → Ends s c → Stands s c
 unfolding on_step
-stands s c h e q = never-whole [] e.0 c.at e.1 (sym (rest-step s c Bad h q) ∙ e.2)
+stands s c h e q = never-whole [] e.0 c.at e.1 (sym (rest-step s c None h q) ∙ e.2)
 
 ends-behind : (s : List ℕ) (r : Run) (c c' : Cursor) → rest s c ≡ before r (rest s c') → Ends s c → Ends s c'
 ends-behind s r c c' q e = go (rest s c') refl
@@ -43,7 +44,7 @@ ends-behind s r c c' q e = go (rest s c') refl
     go (whole rs d) w = (rs, d, w)
     go (broken rs a) w = never-whole (r ∷ rs) e.0 a e.1 (sym (q ∙ ap (before r) w) ∙ e.2)
 
-pub front-next : (s : List ℕ) (c : Cursor) (st at n : ℕ) (c' : Cursor) → c.runs ≤ max_runs → Ends s c → step_at s c ≡ Next st at n c'
+pub front-next : (s : List ℕ) (c : Cursor) (st at n : ℕ) (c' : Cursor) → c.runs ≤ max_runs → Ends s c → step_at s c ≡ Some (Next st at n c')
     → Fronted s c (record { address = st; at = at; left = n; cursor = c' })
 unfolding on_step past rest left_of writes_of
 front-next s c st at n c' h d e =
@@ -53,7 +54,7 @@ front-next s c st at n c' h d e =
     let er : c'.runs ≡ c.runs + 1 = ap (λ (z : Cursor). z.runs) k.next in
     let w : max_runs - c.runs ≡ suc max_runs - c'.runs = omega arith in
     let p = run st (take n (drop at s)) in
-    let b : rest s c ≡ before p (rest s c') = rest-step s c (Next st at n c') h e ∙ ap (λ (z : ℕ). before p (scan z s c')) w in
+    let b : rest s c ≡ before p (rest s c') = rest-step s c (Some (Next st at n c')) h e ∙ ap (λ (z : ℕ). before p (scan z s c')) w in
     let q : runs_in (rest s c) ≡ p ∷ runs_in (rest s c') = ap runs_in b ∙ runs-before p (rest s c') in
     record {
       fit = record {
@@ -66,11 +67,11 @@ front-next s c st at n c' h d e =
       same = sym (ap writes_of q);
     }
 
-pub front-end : (s : List ℕ) (c : Cursor) (e : ℕ) → c.runs ≤ max_runs → Ends s c → step_at s c ≡ End e
+pub front-end : (s : List ℕ) (c : Cursor) (e : ℕ) → c.runs ≤ max_runs → Ends s c → step_at s c ≡ Some (End e)
     → Fronted s c (record { address = 0; at = 0; left = 0; cursor = c })
 unfolding on_step left_of writes_at
 front-end s c e h d q =
-    let last : runs_in (rest s c) ≡ [] = ap runs_in (rest-step s c (End e) h q) in
+    let last : runs_in (rest s c) ≡ [] = ap runs_in (rest-step s c (Some (End e)) h q) in
     record { fit = record { stands = omega arith; top = omega arith; few = h; ends = d; last = λ z. last }; same = refl }
 
 pub patch-ends : (s : List ℕ) → IsPatch s → Ends s (from 0)

@@ -8,6 +8,7 @@ use native.Mathlib.Omega.{arith}
 use lib.ListN.{length, drop, get_or}
 use lib.Dec.{eqb}
 use borrow.Author.Tests.{eq-eqb, ne_eqb, eqb-true, eqb-false}
+use Rattle.std.specs.Prelude.{Ok, Err, is_err}
 use Rattle.endian.specs.LittleEndian.{Bytes}
 use Rattle.endian.proofs.Order.{two, absurdly}
 use Rattle.writes.specs.Sets.{ByteWrite, lookup}
@@ -15,19 +16,16 @@ use Rattle.writes.specs.Sizes.{max_bytes}
 use Rattle.writes.specs.Encoding.{encode, PatchOf}
 use Rattle.writes.proofs.Lookup.{ext-lookup}
 use Rattle.patch.specs.Answers.{judged_number}
-use Rattle.patch.specs.Judging.{judged}
+use Rattle.patch.specs.Judging.{Judged, judged}
 use Rattle.patch.specs.Placing.{set_of}
-use Rattle.patch.specs.declared.Judged.{Judged}
-use Rattle.patch.specs.declared.Judged.TheVariants.{Patch, NoPatch as Other}
 use Rattle.patch.proofs.Patches.{patch-one, patch-judged, judged-set}
 use Rattle.comparing.specs.Differences.{Sides, sides, Difference, differ, alike, unlike, Ascends, listed_at, Lists}
-use Rattle.comparing.specs.Comparing.{side_number, numbers_of, IsPatch, NoPatch, Differing, ComparedTo}
+use Rattle.comparing.specs.Comparing.{side_number, numbers_of, IsPatch, NoPatch, Differing, Compared, ComparedTo}
 use Rattle.comparing.specs.Answers.{compared_number, compared_numbers}
 use Rattle.comparing.specs.Merging.{differences, Patches}
 use Rattle.comparing.specs.Statements.{OneOutcome, RefusalKeepsList, ListsEach, OneList, NothingDiffers, FewEntries}
 use Rattle.comparing.specs.Statements.{exchanged, OtherWayRound, JudgesAlike, CountsEntries, EntriesInNumbers}
-use Rattle.comparing.specs.declared.Compared.{Compared}
-use Rattle.comparing.specs.declared.Compared.TheVariants.{Done, NoRoom, FirstBad, SecondBad}
+use Rattle.comparing.specs.declared.CompareError.TheVariants.{NoRoom, FirstBad, SecondBad}
 use Rattle.comparing.proofs.Turning.{small_of}
 use Rattle.comparing.proofs.Outcomes.{is-patch, no-patch, patches, differing, compare-first, compare-second, compare-short}
 use Rattle.comparing.proofs.Outcomes.{compare-done, lists-one, differing-one}
@@ -169,47 +167,47 @@ other-way-round s t ds h = record {
 
 pub refusal-keeps-list : RefusalKeepsList
 unfolding ComparedTo
-refusal-keeps-list s t l (Done n) l' h f = absurd (f refl)
-refusal-keeps-list s t l (NoRoom n) l' h f = h.2
-refusal-keeps-list s t l FirstBad l' h f = h.1
-refusal-keeps-list s t l SecondBad l' h f = h.2
+refusal-keeps-list s t l (Ok n) l' h f = absurd (f refl)
+refusal-keeps-list s t l (Err (NoRoom n)) l' h f = h.2
+refusal-keeps-list s t l (Err FirstBad) l' h f = h.1
+refusal-keeps-list s t l (Err SecondBad) l' h f = h.2
 
-only-first : (s t l : List ℕ) → NoPatch s → (r : Compared) (l' : List ℕ) → ComparedTo s t l r l' → (r ≡ FirstBad) × (l' ≡ l)
+only-first : (s t l : List ℕ) → NoPatch s → (r : Compared) (l' : List ℕ) → ComparedTo s t l r l' → (r ≡ Err FirstBad) × (l' ≡ l)
 unfolding ComparedTo
-only-first s t l g (Done n) l' h = absurd (g h.1.one h.1.first)
-only-first s t l g (NoRoom n) l' h = absurd (g h.0.1.one h.0.1.first)
-only-first s t l g FirstBad l' h = (refl, h.1)
-only-first s t l g SecondBad l' h = absurd (g h.0.0 h.0.1)
+only-first s t l g (Ok n) l' h = absurd (g h.1.one h.1.first)
+only-first s t l g (Err (NoRoom n)) l' h = absurd (g h.0.1.one h.0.1.first)
+only-first s t l g (Err FirstBad) l' h = (refl, h.1)
+only-first s t l g (Err SecondBad) l' h = absurd (g h.0.0 h.0.1)
 
 only-second : (s t l : List ℕ) → IsPatch s → NoPatch t → (r : Compared) (l' : List ℕ) → ComparedTo s t l r l'
-    → (r ≡ SecondBad) × (l' ≡ l)
+    → (r ≡ Err SecondBad) × (l' ≡ l)
 unfolding ComparedTo
-only-second s t l k g (Done n) l' h = absurd (g h.1.two h.1.second)
-only-second s t l k g (NoRoom n) l' h = absurd (g h.0.1.two h.0.1.second)
-only-second s t l k g FirstBad l' h = absurd (h.0 k.0 k.1)
-only-second s t l k g SecondBad l' h = (refl, h.2)
+only-second s t l k g (Ok n) l' h = absurd (g h.1.two h.1.second)
+only-second s t l k g (Err (NoRoom n)) l' h = absurd (g h.0.1.two h.0.1.second)
+only-second s t l k g (Err FirstBad) l' h = absurd (h.0 k.0 k.1)
+only-second s t l k g (Err SecondBad) l' h = (refl, h.2)
 
 module _ (s t l : List ℕ) (ds : List Difference) (d : Differing s t ds) where
-  only-short : length l < 3 * length ds → (r : Compared) (l' : List ℕ) → ComparedTo s t l r l' → (r ≡ NoRoom (length ds)) × (l' ≡ l)
+  only-short : length l < 3 * length ds → (r : Compared) (l' : List ℕ) → ComparedTo s t l r l' → (r ≡ Err (NoRoom (length ds))) × (l' ≡ l)
   unfolding ComparedTo
-  only-short m (Done n) l' h =
+  only-short m (Ok n) l' h =
       let e = differing-one s t h.0 ds h.1 d in absurd (omega (arith, m, h.3, h.2, ap length e))
-  only-short m (NoRoom n) l' h =
-      let e = differing-one s t h.0.0 ds h.0.1 d in (ap NoRoom (h.0.2 ∙ ap length e), h.2)
-  only-short m FirstBad l' h = absurd (h.0 d.one d.first)
-  only-short m SecondBad l' h = absurd (h.1 d.two d.second)
+  only-short m (Err (NoRoom n)) l' h =
+      let e = differing-one s t h.0.0 ds h.0.1 d in (ap (λ (k : ℕ). Err (NoRoom k)) (h.0.2 ∙ ap length e), h.2)
+  only-short m (Err FirstBad) l' h = absurd (h.0 d.one d.first)
+  only-short m (Err SecondBad) l' h = absurd (h.1 d.two d.second)
 
   only-done : 3 * length ds ≤ length l → (r : Compared) (l' : List ℕ) → ComparedTo s t l r l'
-      → (r ≡ Done (length ds)) × (l' ≡ numbers_of ds ++ drop (3 * length ds) l)
+      → (r ≡ Ok (length ds)) × (l' ≡ numbers_of ds ++ drop (3 * length ds) l)
   unfolding ComparedTo
-  only-done m (Done n) l' h =
+  only-done m (Ok n) l' h =
       let e = differing-one s t h.0 ds h.1 d in
       let q : n ≡ length ds = h.2 ∙ ap length e in
-      (ap Done q, h.4 ∙ ap₂ (λ (x : List Difference) (k : ℕ). numbers_of x ++ drop (3 * k) l) e q)
-  only-done m (NoRoom n) l' h =
+      (ap Ok q, h.4 ∙ ap₂ (λ (x : List Difference) (k : ℕ). numbers_of x ++ drop (3 * k) l) e q)
+  only-done m (Err (NoRoom n)) l' h =
       let e = differing-one s t h.0.0 ds h.0.1 d in absurd (omega (arith, m, h.1, h.0.2, ap length e))
-  only-done m FirstBad l' h = absurd (h.0 d.one d.first)
-  only-done m SecondBad l' h = absurd (h.1 d.two d.second)
+  only-done m (Err FirstBad) l' h = absurd (h.0 d.one d.first)
+  only-done m (Err SecondBad) l' h = absurd (h.1 d.two d.second)
 
 abbrev Outcome : List ℕ → List ℕ → List ℕ → Type 0
 Outcome s t l =
@@ -223,61 +221,61 @@ of-patches s t l h =
     let D = differences (set_of s) (set_of t) in
     let d = differing s t h in
     two (length l) (3 * length D)
-    (λ m. (NoRoom (length D), l, compare-short s t l (length D) h refl m, only-short s t l D d m))
+    (λ m. (Err (NoRoom (length D)), l, compare-short s t l (length D) h refl m, only-short s t l D d m))
     (λ m. (
-      Done (length D),
+      Ok (length D),
       numbers_of D ++ drop (3 * length D) l,
       compare-done s t l (numbers_of D ++ drop (3 * length D) l) (length D) h refl m (sym (put_all l D m)),
       only-done s t l D d m,
     ))
 
 pub one-outcome : OneOutcome
-one-outcome s t l hs ht = go (eqb (judged_number (judged s)) 0) refl (eqb (judged_number (judged t)) 0) refl
+one-outcome s t l hs ht = go (is_err (judged s)) refl (is_err (judged t)) refl
   where
-    go : (a : Bool) → eqb (judged_number (judged s)) 0 ≡ a → (b : Bool) → eqb (judged_number (judged t)) 0 ≡ b → Outcome s t l
-    go false e b f =
-        let n = no-patch s false (sym e) refl in
-        (FirstBad, l, compare-first s t l n, only-first s t l n)
-    go true e false f =
-        let p = is-patch s hs true (sym e) refl in
-        let n = no-patch t false (sym f) refl in
-        (SecondBad, l, compare-second s t l p n, only-second s t l p n)
-    go true e true f = of-patches s t l (patches s t (is-patch s hs true (sym e) refl) (is-patch t ht true (sym f) refl))
+    go : (a : Bool) → is_err (judged s) ≡ a → (b : Bool) → is_err (judged t) ≡ b → Outcome s t l
+    go true e b f =
+        let n = no-patch s e in
+        (Err FirstBad, l, compare-first s t l n, only-first s t l n)
+    go false e true f =
+        let p = is-patch s hs e in
+        let n = no-patch t f in
+        (Err SecondBad, l, compare-second s t l p n, only-second s t l p n)
+    go false e false f = of-patches s t l (patches s t (is-patch s hs e) (is-patch t ht f))
 
 -- ---- 9 as judging says it
 
 judged-nine : (s : List ℕ) → Bytes s → (j : Judged) → judged s ≡ j → judged_number j ≡ 9 → NoPatch s
-judged-nine s hb (Patch k n) q e S h = absurd (omega (arith, e))
-judged-nine s hb (Other k a) q e S h = let w = patch-judged S s h in absurdly cc
+judged-nine s hb (Ok z) q e S h = absurd (omega (arith, e))
+judged-nine s hb (Err z) q e S h = let w = patch-judged S s h in absurdly cc
 
 nine-judged : (s : List ℕ) → Bytes s → (j : Judged) → judged s ≡ j → NoPatch s → judged_number j ≡ 9
-nine-judged s hb (Patch k n) q f = absurd (f (set_of s) (judged-set s k n hb q).0)
-nine-judged s hb (Other k a) q f = refl
+nine-judged s hb (Ok z) q f = absurd (f (set_of s) (judged-set s z hb q).0)
+nine-judged s hb (Err z) q f = refl
 
 judged-zero : (s : List ℕ) → Bytes s → (j : Judged) → judged s ≡ j → judged_number j ≡ 0 → IsPatch s
-judged-zero s hb (Patch k n) q e = (set_of s, (judged-set s k n hb q).0)
-judged-zero s hb (Other k a) q e = absurd (omega (arith, e))
+judged-zero s hb (Ok z) q e = (set_of s, (judged-set s z hb q).0)
+judged-zero s hb (Err z) q e = absurd (omega (arith, e))
 
 zero-judged : (s : List ℕ) → (j : Judged) → judged s ≡ j → IsPatch s → judged_number j ≡ 0
-zero-judged s (Patch k n) q f = refl
-zero-judged s (Other k a) q f = let w = patch-judged f.0 s f.1 in absurdly cc
+zero-judged s (Ok z) q f = refl
+zero-judged s (Err z) q f = let w = patch-judged f.0 s f.1 in absurdly cc
 
 -- by the numbers of an answer
 first-told : (s t l : List ℕ) (r : Compared) (l' : List ℕ) → ComparedTo s t l r l' → compared_number r ≡ 9
     → compared_numbers r ≡ 0 ∷ 0 ∷ 0 ∷ 0 ∷ 0 ∷ [] → NoPatch s
 unfolding ComparedTo
-first-told s t l (Done n) l' h e q = absurd (omega (arith, e))
-first-told s t l (NoRoom n) l' h e q = absurd (omega (arith, e))
-first-told s t l FirstBad l' h e q = h.0
-first-told s t l SecondBad l' h e q = absurdly cc
+first-told s t l (Ok n) l' h e q = absurd (omega (arith, e))
+first-told s t l (Err (NoRoom n)) l' h e q = absurd (omega (arith, e))
+first-told s t l (Err FirstBad) l' h e q = h.0
+first-told s t l (Err SecondBad) l' h e q = absurdly cc
 
 second-told : (s t l : List ℕ) (r : Compared) (l' : List ℕ) → ComparedTo s t l r l' → compared_number r ≡ 9
     → compared_numbers r ≡ 1 ∷ 0 ∷ 0 ∷ 0 ∷ 0 ∷ [] → IsPatch s × NoPatch t
 unfolding ComparedTo
-second-told s t l (Done n) l' h e q = absurd (omega (arith, e))
-second-told s t l (NoRoom n) l' h e q = absurd (omega (arith, e))
-second-told s t l FirstBad l' h e q = absurdly cc
-second-told s t l SecondBad l' h e q = (h.0, h.1)
+second-told s t l (Ok n) l' h e q = absurd (omega (arith, e))
+second-told s t l (Err (NoRoom n)) l' h e q = absurd (omega (arith, e))
+second-told s t l (Err FirstBad) l' h e q = absurdly cc
+second-told s t l (Err SecondBad) l' h e q = (h.0, h.1)
 
 pub judges_alike : JudgesAlike
 judges_alike s t l hs ht r l' h = (

@@ -1,5 +1,6 @@
 -- What serves the contracts of the code's own functions: two sets walked side by side, and where each side stands. Assumes nothing.
 use Rattle.std.specs.Prelude.{ℕ, zero, suc, ◌+◌, ◌-◌, ◌*◌, ◌^◌, ◌≤◌, Bool, false, cond, List, [], ◌∷◌, ◌++◌, ◌≡◌, eqb, ltb, length, take, drop, get_or, set}
+use Rattle.std.specs.Prelude.{Option as Maybe, Some, None}
 use Rattle.std.proofs.Math.Option.{Option, none, some}
 use Rattle.endian.specs.LittleEndian.{Bytes, le_val}
 use Rattle.writes.specs.Sets.{ByteWrite, write, Run, writes_at, writes_of}
@@ -68,9 +69,9 @@ unfoldable pub put : ℕ → List ℕ → List Difference → List ℕ
 put k l [] = l
 put k l (differ a o p ∷ ds) = put (k + 3) (set (set (set l k a) (k + 1) (side_number o)) (k + 2) (side_number p)) ds
 
--- how many entries there are where a list of so many numbers is too short for them, else 0
-unfoldable pub lacking : ℕ → ℕ → ℕ
-lacking numbers n = cond (ltb numbers (3 * n)) n 0
+-- how many entries there are, where a list of so many numbers is too short for them
+unfoldable pub lacking : ℕ → ℕ → Maybe ℕ
+lacking numbers n = cond (ltb numbers (3 * n)) (Some n) None
 
 -- ---- where a side stands
 

@@ -7,9 +7,8 @@ use Rattle.writes.specs.Sets.{ByteWrite, lookup}
 use Rattle.patch.specs.Judging.{judged}
 use Rattle.patch.specs.Answers.{judged_number}
 use Rattle.comparing.specs.Differences.{sides, Difference, differ, listed_at, Lists}
-use Rattle.comparing.specs.Comparing.{side_number, numbers_of, Differing, ComparedTo}
+use Rattle.comparing.specs.Comparing.{side_number, numbers_of, Differing, Compared, ComparedTo}
 use Rattle.comparing.specs.Answers.{compared_number, compared_numbers}
-use Rattle.comparing.specs.declared.Compared.{Compared}
 
 -- for every input exactly one answer and one list
 abbrev pub OneOutcome : Type 0

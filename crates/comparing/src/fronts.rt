@@ -29,8 +29,7 @@ pub(crate) fn front_at(s: &[u8], c: Cursor) -> Front
     requires { (c.runs ≤ max_runs) × Ends s.now c }
     ensures { Fronted s.now c result }
 {
-    let w = reader::next_run(s, c);
-    match w {
+    match reader::next_run(s, c) {
         Step::Next {
             start,
             from,
@@ -43,12 +42,6 @@ pub(crate) fn front_at(s: &[u8], c: Cursor) -> Front
             cursor: next,
         },
         Step::End { end: _ } => Front {
-            address: 0,
-            at: 0,
-            left: 0,
-            cursor: c,
-        },
-        Step::Bad => Front {
             address: 0,
             at: 0,
             left: 0,

@@ -4,23 +4,19 @@
 mod fronts;
 mod parts;
 
-ghost use Rattle.std.specs.Prelude.{◌≡◌, ◌*◌, ◌≤◌, length, eqb};
-ghost use Rattle.patch.specs.Judging.{judged};
-ghost use Rattle.patch.specs.Answers.{judged_number};
+ghost use Rattle.std.specs.Prelude.{◌≡◌, ◌*◌, ◌≤◌, length};
 ghost use Rattle.patch.specs.Placing.{set_of};
 ghost use Rattle.comparing.specs.Comparing.{IsPatch, ComparedTo};
 ghost use Rattle.comparing.specs.Merging.{differences, put, lacking, Patches, Started};
 
 use fronts::{Front, front_at, next_stretch, skip};
 use parts::{differing, list_part};
-use patch::Judged;
 use reading::Cursor;
 
-// What comparing answers: done with the number of entries, verdict 8 with the number of entries needed, or verdict 9 and which of the
-// two strings is no patch, the first when both aren't.
-#[derive(Clone, Copy)]
-pub enum Compared {
-    Done { entries: usize },
+// Why two patches aren't compared: verdict 8 with the number of entries needed, or verdict 9 and which of the two strings is no patch, the
+// first when both aren't.
+#[derive(Debug, Clone, Copy, PartialEq, Eq)]
+pub enum CompareError {
     NoRoom { needed: usize },
     FirstBad,
     SecondBad,
@@ -30,29 +26,11 @@ pub enum Compared {
 // the entries are counted before they are listed.
 const ALWAYS_ROOM: usize = 6144;
 
-fn is_patch(s: &[u8]) -> bool
-    ensures { result ≡ eqb (judged_number (judged s.now)) 0 }
-{
-    let j = patch::judge(s);
-    match j {
-        Judged::Patch { runs: _, bytes: _ } => true,
-        Judged::NoPatch { runs: _, at: _ } => false,
-    }
-}
-
 fn first_front(s: &[u8]) -> Front
     requires { IsPatch s.now }
     ensures { Started s.now result }
 {
-    front_at(
-        s,
-        Cursor {
-            at: 0,
-            runs: 0,
-            bytes: 0,
-            last: 0,
-        },
-    )
+    front_at(s, Cursor::start(0))
 }
 
 // The number of entries.
@@ -77,19 +55,16 @@ fn count(first: &[u8], second: &[u8]) -> usize
     }
 }
 
-// How many entries there are where a list of so many numbers is too short for them, else 0.
-fn lacks(first: &[u8], second: &[u8], numbers: usize) -> usize
+// How many entries there are, where a list of so many numbers is too short for them.
+fn lacks(first: &[u8], second: &[u8], numbers: usize) -> Option<usize>
     requires { Patches first.now second.now }
     ensures { result ≡ lacking numbers (length (differences (set_of first.now) (set_of second.now))) }
 {
     if ALWAYS_ROOM <= numbers {
-        return 0;
+        return None;
     }
     let n = count(first, second);
-    if numbers < 3 * n {
-        return n;
-    }
-    0
+    if numbers < 3 * n { Some(n) } else { None }
 }
 
 // All entries, put into the list from its front on. Answers the index behind them.
@@ -115,20 +90,19 @@ fn fill(list: &mut [u64], first: &[u8], second: &[u8]) -> usize
     }
 }
 
-// Lists each address where two patches differ.
-pub fn compare(first: &[u8], second: &[u8], list: &mut [u64]) -> Compared
+// Lists each address where two patches differ, and answers how many those are.
+pub fn compare(first: &[u8], second: &[u8], list: &mut [u64]) -> Result<usize, CompareError>
     ensures { ComparedTo first.now second.now list.old result list.new }
 {
-    if !is_patch(first) {
-        return Compared::FirstBad;
+    if patch::judge(first).is_err() {
+        return Err(CompareError::FirstBad);
     }
-    if !is_patch(second) {
-        return Compared::SecondBad;
+    if patch::judge(second).is_err() {
+        return Err(CompareError::SecondBad);
     }
-    let needed = lacks(first, second, list.len());
-    if 0 < needed {
-        return Compared::NoRoom { needed };
+    if let Some(needed) = lacks(first, second, list.len()) {
+        return Err(CompareError::NoRoom { needed });
     }
     let end = fill(list, first, second);
-    Compared::Done { entries: end / 3 }
+    Ok(end / 3)
 }

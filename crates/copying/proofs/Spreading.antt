@@ -1,5 +1,5 @@
 -- Elements put over memory at equal distances, one by one and register by register. Assumes nothing.
-use mathlib.Core.Path.{◌≡◌, refl, sym, ap, ap₂, ◌∙◌, subst}
+use mathlib.Core.Path.{◌≡◌, refl, sym, ap, ap₂, ◌∙◌}
 use mathlib.Core.List.{List}
 use Prim.Native.Nat.{ℕ, zero, suc, ◌+◌, ◌-◌, ◌*◌, ◌≤◌, ◌<◌}
 use native.Mathlib.Nat.{zero-mul, suc-mul, add-mul, mul-le-mul, mul-le-mul_right}
@@ -121,18 +121,6 @@ module _ {src mem₀ : List ℕ} {at n gap size : ℕ} (o : Room src mem₀ at n
         weighed = c.weighed ∙ ap (λ (k : ℕ). k * size) w;
         same = ap (λ (y : ℕ). spread_from src gap size y e mem (at + e * gap)) u ∙ c.same;
       }
-
--- ---- `copy_elements`: the same with equal numbers
-
-module _ {src mem : List ℕ} {at n g k gap size : ℕ} (p : gap ≡ g) (q : size ≡ k) where
-  pub room-alike : Room src mem at n gap size → Room src mem at n g k
-  room-alike o = subst (λ (x : ℕ). Room src mem at n x k) p (subst (Room src mem at n gap) q o)
-
-  pub copies-alike : {elements bytes : ℕ} {mem' : List ℕ} → Copies src mem at n g k elements bytes mem'
-      → Copies src mem at n gap size elements bytes mem'
-  copies-alike {elements} {bytes} {mem'} c =
-      subst (λ (x : ℕ). Copies src mem at n x size elements bytes mem') (sym p)
-      (subst (λ (x : ℕ). Copies src mem at n g x elements bytes mem') (sym q) c)
 
 -- ---- `copy_active`
 

@@ -19,15 +19,14 @@ fn row_of(s: StridedAccess, vb: usize, z: &[u8], r: usize) -> &[u8]
 }
 
 // Copies n elements of `size` bytes, `gap` bytes from one to the next in both slices, from offset `at` on: each one's place in memory is
-// lent to the byte writer, and it is counted.
+// lent to the byte writer, and it is counted there, so that what is counted was written.
 fn copy_each(memory: &mut [u8], at: usize, src: &[u8], n: usize, gap: usize, size: usize) -> Counts
     requires { Room src.now memory.old at n gap size }
     ensures { Copies src.now memory.old at n gap size result.elements result.bytes memory.new }
 {
     let mut elements: u64 = 0;
     let mut bytes: u64 = 0;
-    let mut e: usize = 0;
-    while e < n {
+    for e in 0..n {
         let from = e * gap;
         let end = from + size;
         let p = at + from;
@@ -35,12 +34,12 @@ fn copy_each(memory: &mut [u8], at: usize, src: &[u8], n: usize, gap: usize, siz
         endian::copy(&mut memory[p..to], &src[from..end]);
         elements += 1;
         bytes += size as u64;
-        e += 1;
     }
     Counts { elements, bytes }
 }
 
-// The same with constants for gap and size, so that the compiler makes loops of their own for them.
+// The same with constants for gap and size, so that the compiler makes loops of their own for them. They are no const parameters, since the
+// last two calls have numbers that are read.
 fn copy_elements(
     memory: &mut [u8],
     at: usize,
@@ -52,24 +51,14 @@ fn copy_elements(
     requires { Room src.now memory.old at n gap size }
     ensures { Copies src.now memory.old at n gap size result.elements result.bytes memory.new }
 {
-    if gap == size {
-        if size == 8 {
-            return copy_each(memory, at, src, n, 8, 8);
-        }
-        if size == 1 {
-            return copy_each(memory, at, src, n, 1, 1);
-        }
-        if size == 4 {
-            return copy_each(memory, at, src, n, 4, 4);
-        }
-        if size == 2 {
-            return copy_each(memory, at, src, n, 2, 2);
-        }
+    match (gap, size) {
+        (8, 8) => copy_each(memory, at, src, n, 8, 8),
+        (1, 1) => copy_each(memory, at, src, n, 1, 1),
+        (4, 4) => copy_each(memory, at, src, n, 4, 4),
+        (2, 2) => copy_each(memory, at, src, n, 2, 2),
+        (_, 1) => copy_each(memory, at, src, n, gap, 1),
+        _ => copy_each(memory, at, src, n, gap, size),
     }
-    if size == 1 {
-        return copy_each(memory, at, src, n, gap, 1);
-    }
-    copy_each(memory, at, src, n, gap, size)
 }
 
 // Copies the active elements, one register after the other, and counts them. The first one's place is at offset `at`.
@@ -81,15 +70,12 @@ pub fn copy_active(s: StridedAccess, vb: usize, z: &[u8], memory: &mut [u8], at:
     ensures bytes_value { result.bytes ≡ (s.high - s.low) * s.size }
     ensures memory_after { memory.new ≡ spread s vb z.now (s.high - s.low) s.low memory.old at }
 {
-    let nreg = s.nreg;
     let mut elements: u64 = 0;
     let mut bytes: u64 = 0;
     let mut k = s.low;
-    let mut r = 0;
-    while r < nreg {
-        let to = elements::lower(s.high, (r + 1) * s.per);
+    for r in 0..s.nreg {
+        let to = s.high.min((r + 1) * s.per);
         if to <= k {
-            r += 1;
             continue;
         }
         let reg = row_of(s, vb, z, r);
@@ -99,7 +85,6 @@ pub fn copy_active(s: StridedAccess, vb: usize, z: &[u8], memory: &mut [u8], at:
         elements += counts.elements;
         bytes += counts.bytes;
         k = to;
-        r += 1;
     }
     Counts { elements, bytes }
 }

@@ -1,12 +1,9 @@
 -- Elements under a counter: the border, and the two ends of the range of those that are active. Assumes nothing.
-use mathlib.Core.Path.{◌≡◌, sym, ap, ap₂, ◌∙◌}
-use mathlib.Core.Bool.{Bool, true, false, cond}
+use mathlib.Core.Path.{◌≡◌, ap, ap₂, ◌∙◌}
 use Prim.Native.Nat.{ℕ, ◌+◌, ◌-◌, ◌*◌, ◌/◌, ◌%◌, ◌^◌, ◌≤◌, ◌<◌}
 use native.Mathlib.Nat.{mod-lt}
 use native.Mathlib.Omega.{arith}
 use lib.Pow.{pow_pos, pow_mono}
-use lib.Dec.{ltb}
-use borrow.Author.Tests.{eq-eqb, ne_eqb, lt-ltb, le-ltb}
 use Rattle.elements.specs.Counter.{lowest_set, unit_of, highest, count_in}
 use Rattle.elements.specs.Accesses.{border_of, low_of, high_of, range_of}
 use Rattle.elements.specs.declared.Range.{Range}
@@ -35,48 +32,12 @@ border-is vb v g s k y w h p q r =
 pub power_small : (g : ℕ) → g < 4 → (1 ≤ 2 ^ g) × (2 ^ g ≤ 8)
 power_small g h = let l : g ≤ 3 = omega arith in (pow_pos g, pow_mono l)
 
--- ---- the range
-
-module _ (v b n : ℕ) where
-  -- the border, or n where that is lower
-  abbrev border : ℕ
-  border = b - (b - n)
-
-  pub low-empty : v % 16 ≡ 0 → 0 ≡ low_of v b n
-  unfolding low_of
-  low-empty z = sym (ap (λ (t : Bool). cond t 0 (cond (ltb v (2 ^ 15)) 0 border)) (eq-eqb (v % 16) 0 z))
-
-  pub high-empty : v % 16 ≡ 0 → 0 ≡ high_of v b n
-  unfolding high_of
-  high-empty z = sym (ap (λ (t : Bool). cond t 0 (cond (ltb v (2 ^ 15)) border n)) (eq-eqb (v % 16) 0 z))
-
-  module _ (f : v % 16 ≡ 0 → ⊥) where
-    low-some : (t : Bool) → ltb v (2 ^ 15) ≡ t → cond t 0 border ≡ low_of v b n
-    unfolding low_of
-    low-some t q = sym (ap₂ (λ (x y : Bool). cond x 0 (cond y 0 border)) (ne_eqb (v % 16) 0 f) q)
-
-    high-some : (t : Bool) → ltb v (2 ^ 15) ≡ t → cond t border n ≡ high_of v b n
-    unfolding high_of
-    high-some t q = sym (ap₂ (λ (x y : Bool). cond x 0 (cond y border n)) (ne_eqb (v % 16) 0 f) q)
-
-    pub low_up : v < 2 ^ 15 → 0 ≡ low_of v b n
-    low_up l = low-some true (lt-ltb v (2 ^ 15) l)
-
-    pub low-down : 2 ^ 15 ≤ v → (r : ℕ) → r ≡ border → r ≡ low_of v b n
-    low-down l r q = q ∙ low-some false (le-ltb v (2 ^ 15) l)
-
-    pub high-up : v < 2 ^ 15 → (r : ℕ) → r ≡ border → r ≡ high_of v b n
-    high-up l r q = q ∙ high-some true (lt-ltb v (2 ^ 15) l)
-
-    pub high_down : 2 ^ 15 ≤ v → n ≡ high_of v b n
-    high_down l = high-some false (le-ltb v (2 ^ 15) l)
-
 -- ---- together
 
-pub range-is : (vb v g n b p k : ℕ) (r : Range) → b ≡ border_of vb v g → p ≡ vb / 2 ^ g → k ≡ 2 ^ g → r.low ≡ low_of v b (n * p)
-    → r.high ≡ high_of v b (n * p) → r.gap ≡ k → r.per ≡ p → r ≡ range_of vb v g n
+pub range-is : (vb v g n b k l h : ℕ) → b ≡ border_of vb v g → k ≡ 2 ^ g → l ≡ low_of v b (n * (vb / 2 ^ g)) → h ≡ high_of v b (n * (vb / 2 ^ g))
+    → ◌≡◌ {A = Range} (record { low = l; high = h; gap = k; per = vb / 2 ^ g }) (range_of vb v g n)
 unfolding range_of
-range-is vb v g n b p k r qb qp qk l h e f =
-    let low = l ∙ (λ i. low_of v (qb i) (n * qp i)) in
-    let high = h ∙ (λ i. high_of v (qb i) (n * qp i)) in
-    λ i. record { low = low i; high = high i; gap = (e ∙ qk) i; per = (f ∙ qp) i }
+range-is vb v g n b k l h e q el eh =
+    let low = el ∙ ap (λ (x : ℕ). low_of v x (n * (vb / 2 ^ g))) e in
+    let high = eh ∙ ap (λ (x : ℕ). high_of v x (n * (vb / 2 ^ g))) e in
+    λ i. record { low = low i; high = high i; gap = q i; per = vb / 2 ^ g }

@@ -15,23 +15,14 @@ fn counter_of(p: &[u8], vb: usize, pc: u8) -> u64
     requires { (pc < 8) × (16 ≤ vb) × (vb ≤ 256) × (length p.now ≡ 2 * vb) }
     ensures { result ≡ counter_of (machine vb [] 0 [] p.now) pc }
 {
-    endian::le16(elements::register_of(p, vb / 8, 8 + pc as usize), 0)
+    endian::le16(elements::register_of(p, vb / 8, 8 + usize::from(pc)), 0)
 }
 
 // The index of a counter's lowest set bit among its low four.
 pub fn lowest_set(v: u64) -> u32
     ensures { (result ≡ lowest_set v) × (result < 4) }
 {
-    if v % 2 == 1 {
-        return 0;
-    }
-    if v % 4 == 2 {
-        return 1;
-    }
-    if v % 8 == 4 {
-        return 2;
-    }
-    3
+    v.trailing_zeros().min(3)
 }
 
 // A counter's count, with the index of its lowest set bit: what stands above that, up to bit log2(4 * vb).
@@ -53,43 +44,16 @@ fn border_of(vb: usize, v: u64, shift: u32, g: u32) -> usize
     ((units + ((1u64 << g) - 1)) >> g) as usize
 }
 
-// The higher of two numbers.
-fn higher(x: u32, y: u32) -> u32
-    ensures { result ≡ x + (y - x) }
-{
-    if x < y {
-        return y;
-    }
-    x
-}
-
-// The active ones of n under the counter, by its border, with their distance and how many of them a register has.
-fn range_of(v: u64, border: usize, n: usize, gap: usize, per: usize) -> Range
-    ensures { (result.low ≡ low_of v border n) × (result.high ≡ high_of v border n) × (result.gap ≡ gap) × (result.per ≡ per) }
+// The active ones of n under the counter, by its border: from the first number up to the second.
+#[tactic(auto, unfolding(elements::specs::Accesses::low_of, elements::specs::Accesses::high_of))]
+fn bounds_of(v: u64, border: usize, n: usize) -> (usize, usize)
+    ensures { (result.0 ≡ low_of v border n) × (result.1 ≡ high_of v border n) }
 {
     if v % 16 == 0 {
-        return Range {
-            low: 0,
-            high: 0,
-            gap,
-            per,
-        };
+        return (0, 0);
     }
-    let at = elements::lower(border, n);
-    if v < 0x8000 {
-        return Range {
-            low: 0,
-            high: at,
-            gap,
-            per,
-        };
-    }
-    Range {
-        low: at,
-        high: n,
-        gap,
-        per,
-    }
+    let at = border.min(n);
+    if v < 0x8000 { (0, at) } else { (at, n) }
 }
 
 // The active elements of a strided store.
@@ -100,9 +64,15 @@ pub fn range_for(f: StridedFields, vb: usize, p: &[u8]) -> Range
 {
     let counter = counter_of(p, vb, f.pc);
     let shift = lowest_set(counter);
-    let g = higher(encoding::number_for(f.class, Number::Exponent), shift);
+    let g = encoding::number_for(f.class, Number::Exponent).max(shift);
     let border = border_of(vb, counter, shift, g);
     let per = vb >> g;
     let nreg = encoding::number_for(f.class, Number::Nreg) as usize;
-    range_of(counter, border, nreg * per, 1usize << g, per)
+    let (low, high) = bounds_of(counter, border, nreg * per);
+    Range {
+        low,
+        high,
+        gap: 1 << g,
+        per,
+    }
 }

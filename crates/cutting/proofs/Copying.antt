@@ -116,13 +116,10 @@ unfolding run_bytes
 headed-run W mem m m' at x y p n h e = e ∙ ap (λ (H : List ℕ). overwritten m at (H ++ part mem p n)) h
 
 -- head and payload are a run
-pub run-put : (W : ℕ) (mem m m₁ m₂ : List ℕ) (at a b s l : ℕ) → a < b → b ≤ length mem → at + 12 + (b - a) ≤ length m
-    → s ≡ W + a → l ≡ b - a
-    → m₁ ≡ overwritten m at (head_bytes s l) → m₂ ≡ overwritten m₁ (at + 12) (part mem a (b - a))
-    → m₂ ≡ overwritten m at (run_bytes W mem a (b - a))
+pub run-put : (W : ℕ) (mem m m₁ m₂ : List ℕ) (at a n : ℕ) → a + n ≤ length mem → at + 12 + n ≤ length m
+    → m₁ ≡ overwritten m at (head_bytes (W + a) n) → m₂ ≡ overwritten m₁ (at + 12) (part mem a n)
+    → m₂ ≡ overwritten m at (run_bytes W mem a n)
 unfolding run_bytes
-run-put W mem m m₁ m₂ at a b s l h k r es el e₁ e₂ =
-    let H : List ℕ = head_bytes (W + a) (b - a) in
-    let n = length-head_bytes (W + a) (b - a) in
-    over-next m m₁ m₂ at (at + 12) H (part mem a (b - a)) (e₁ ∙ cc) (omega arith)
-    (omega (arith, length-of-part mem a (b - a) (omega arith))) e₂
+run-put W mem m m₁ m₂ at a n h r e₁ e₂ =
+    let l = length-head_bytes (W + a) n in
+    over-next m m₁ m₂ at (at + 12) (head_bytes (W + a) n) (part mem a n) e₁ (omega arith) (omega (arith, length-of-part mem a n h)) e₂

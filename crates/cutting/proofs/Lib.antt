@@ -5,3 +5,4 @@ pub mod Composing
 pub mod Made
 pub mod Patched
 pub mod Spacing
+pub mod Turning

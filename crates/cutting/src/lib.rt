@@ -1,14 +1,13 @@
 // The patch of stretches in ascending order: heads and trailer, with payloads copied from the memory that was written.
 #![tactic(auto)]
 
-ghost use Rattle.std.specs.Prelude.{◌≡◌, [], ◌∷◌, ◌++◌, ◌+◌, ◌-◌, ◌%◌, ◌^◌, ◌<◌, ◌≤◌, length};
+ghost use Rattle.std.specs.Prelude.{◌≡◌, [], ◌∷◌, ◌++◌, ◌+◌, ◌%◌, ◌^◌, ◌≤◌, length};
 ghost use Rattle.endian.specs.LittleEndian.{le_bytes};
 ghost use Rattle.writes.specs.Encoding.{trailer, encode_runs};
 ghost use Rattle.endian.specs.Overwriting.{overwritten};
-ghost use Rattle.ordering.specs.Keys.{entries};
-ghost use Rattle.stretches.specs.Intervals.{interval, Separate, total};
+ghost use Rattle.stretches.specs.Intervals.{interval, total};
 ghost use Rattle.stretches.specs.Stretches.{merged, Ordered};
-ghost use Rattle.cutting.specs.Cutting.{head_bytes, part, run_bytes, cut, spaced, Composing};
+ghost use Rattle.cutting.specs.Cutting.{head_bytes, part, run_bytes, cut, runs_of, Apart, Put};
 
 // A mark: 50h and its second byte.
 fn put_mark(out: &mut [u8], at: usize, second: u8)
@@ -85,13 +84,13 @@ fn copy_at(out: &mut [u8], at: usize, memory: &[u8], p: usize, n: usize)
     endian::copy_any(&mut out[at..to], &memory[p..q]);
 }
 
-// The run from offset a up to b: head and payload.
-fn put_run(out: &mut [u8], at: usize, w: u64, memory: &[u8], a: usize, b: usize)
-    requires { (at + 12 + (b - a) ≤ length out.old) × (a < b) × (b ≤ length memory.now) × (w + length memory.now ≤ 2 ^ 64) }
-    ensures { out.new ≡ overwritten out.old at (run_bytes w memory.now a (b - a)) }
+// The run of n bytes from offset a on: head and payload.
+fn put_run(out: &mut [u8], at: usize, w: u64, memory: &[u8], a: usize, n: usize)
+    requires { (1 ≤ n) × (at + 12 + n ≤ length out.old) × (a + n ≤ length memory.now) × (w + length memory.now ≤ 2 ^ 64) }
+    ensures { out.new ≡ overwritten out.old at (run_bytes w memory.now a n) }
 {
-    put_head(out, at, w + a as u64, (b - a) as u64);
-    copy_at(out, at + 12, memory, a, b - a);
+    put_head(out, at, w + a as u64, n as u64);
+    copy_at(out, at + 12, memory, a, n);
 }
 
 // The run of n bytes from offset p on, its head as two numbers, which the compiler puts by a move each: the mark and the
@@ -107,24 +106,23 @@ fn put_headed(out: &mut [u8], at: usize, head: u64, tail: u64, memory: &[u8], p:
 }
 
 // The patch of stretches: runs and trailer. Answers its length.
-pub fn compose(w: u64, stretches: &[u32], m: usize, memory: &[u8], out: &mut [u8]) -> usize
-    requires { Ordered stretches.now m (length memory.now) × (w + length memory.now ≤ 2 ^ 64)
-        × (total (merged (entries stretches.now 0 m)) + 4 ≤ length out.old) }
-    ensures value { result ≡ total (merged (entries stretches.now 0 m)) + 4 }
+pub fn compose(w: u64, stretches: &[u32], memory: &[u8], out: &mut [u8]) -> usize
+    requires { Ordered stretches.now (length memory.now) × (w + length memory.now ≤ 2 ^ 64)
+        × (total (merged stretches.now) + 4 ≤ length out.old) }
+    ensures value { result ≡ total (merged stretches.now) + 4 }
     ensures out_after { out.new ≡ overwritten out.old 0
-        (encode_runs (cut w memory.now (merged (entries stretches.now 0 m)))) }
+        (encode_runs (cut w memory.now (merged stretches.now))) }
 {
     let mut to = 0;
     let mut runs = 0;
-    let mut t = 0;
-    while t < m {
-        let g = stretches::grown(stretches, m, t);
-        let a = g.start;
-        let b = g.end;
-        put_run(out, to, w, memory, a, b);
-        to = to + 12 + (b - a);
+    let mut left = stretches;
+    while let Some((first, behind)) = left.split_first() {
+        let run = stretches::grown(*first, behind);
+        let n = run.end - run.start;
+        put_run(out, to, w, memory, run.start, n);
+        to += 12 + n;
         runs += 1;
-        t = g.next;
+        left = run.rest;
     }
     put_trailer(out, to, runs);
     to + 4
@@ -136,75 +134,63 @@ pub fn compose_one(w: u64, a: usize, n: usize, memory: &[u8], out: &mut [u8]) ->
     ensures value { result ≡ n + 16 }
     ensures out_after { out.new ≡ overwritten out.old 0 (encode_runs (cut w memory.now (interval a n ∷ []))) }
 {
-    put_run(out, 0, w, memory, a, a + n);
+    put_run(out, 0, w, memory, a, n);
     put_trailer(out, n + 12, 1);
     n + 16
 }
 
 // A patch's length, and how many steps it took.
-#[derive(Clone, Copy)]
+#[derive(Debug, Clone, Copy, PartialEq, Eq)]
 pub struct Composed {
     pub length: usize,
     pub steps: usize,
 }
 
-// `count` runs of `size` bytes each, `gap` bytes from one start to the next, without a trailer: a step puts one.
-fn put_apart(
-    w: u64,
-    first: usize,
-    gap: usize,
-    size: usize,
-    count: usize,
-    memory: &[u8],
-    out: &mut [u8],
-) -> Composed
-    requires le_size { (1 ≤ size) × (gap ≤ 65536) × (length memory.now ≤ 65536) × (w + length memory.now ≤ 2 ^ 64)
-        × (total (spaced first gap size count) + 4 ≤ length out.old) }
-    requires separate { Separate (length memory.now) 0 (spaced first gap size count) }
-    ensures { Composing w memory.now (spaced first gap size count) out.old [] out.new result.length result.steps
-        × (result.steps ≡ count) }
+// `count` runs of `size` bytes each, the first from offset `first` on, `gap` bytes from one start to the next.
+#[derive(Debug, Clone, Copy, PartialEq, Eq)]
+pub struct Spaced {
+    pub first: usize,
+    pub gap: usize,
+    pub size: usize,
+    pub count: usize,
+}
+
+// The runs without a trailer: a step puts one.
+fn put_apart(w: u64, runs: Spaced, memory: &[u8], out: &mut [u8]) -> Composed
+    requires { Apart runs w memory.now out.old }
+    ensures { Put runs w memory.now out.old out.new result }
 {
     let mut to = 0;
-    let mut a = first;
+    let mut a = runs.first;
     let mut steps = 0;
-    while steps < count {
-        put_run(out, to, w, memory, a, a + size);
-        to = to + 12 + size;
-        a += gap;
+    for _i in 0..runs.count {
+        put_run(out, to, w, memory, a, runs.size);
+        to += 12 + runs.size;
+        a += runs.gap;
         steps += 1;
     }
     Composed { length: to, steps }
 }
 
 // The same where no start crosses a multiple of 2^48. The upper two bytes of the starts stay the same: one `tail` serves
-// all heads, and `head` goes on by a gap at a time.
-fn put_near(
-    w: u64,
-    first: usize,
-    gap: usize,
-    size: usize,
-    count: usize,
-    memory: &[u8],
-    out: &mut [u8],
-) -> Composed
-    requires le_size { (1 ≤ size) × (gap ≤ 65536) × (length memory.now ≤ 65536) × (w + length memory.now ≤ 2 ^ 64)
-        × (total (spaced first gap size count) + 4 ≤ length out.old) }
-    requires separate { Separate (length memory.now) 0 (spaced first gap size count) }
-    requires le_count { (1 ≤ count) × ((w + first) % 2 ^ 48 + 2 ^ 17 ≤ 2 ^ 48) }
-    ensures { Composing w memory.now (spaced first gap size count) out.old [] out.new result.length result.steps
-        × (result.steps ≡ count) }
+// all heads, and `head` goes on by a gap at a time. One loop for both, its head a number of 12 bytes that goes on by a gap, takes
+// a tenth more: 512 runs in 1.13 of what hand-written code takes, which may take 1.1.
+fn put_near(w: u64, runs: Spaced, memory: &[u8], out: &mut [u8]) -> Composed
+    requires apart { Apart runs w memory.now out.old }
+    requires near { (1 ≤ runs.count) × ((w + runs.first) % 2 ^ 48 + 2 ^ 17 ≤ 2 ^ 48) }
+    ensures { Put runs w memory.now out.old out.new result }
 {
-    let start = w + first as u64;
-    let tail = start / 0x1_0000_0000_0000 + 0x10000 * size as u64;
+    let start = w + runs.first as u64;
+    let tail = start / 0x1_0000_0000_0000 + 0x10000 * runs.size as u64;
     let mut head = 0x5250 + 0x10000 * (start % 0x1_0000_0000_0000);
     let mut to = 0;
-    let mut p = first;
+    let mut p = runs.first;
     let mut steps = 0;
-    while steps < count {
-        put_headed(out, to, head, tail, memory, p, size);
-        head += 0x10000 * gap as u64;
-        to = to + 12 + size;
-        p += gap;
+    for _i in 0..runs.count {
+        put_headed(out, to, head, tail, memory, p, runs.size);
+        head += 0x10000 * runs.gap as u64;
+        to += 12 + runs.size;
+        p += runs.gap;
         steps += 1;
     }
     Composed { length: to, steps }
@@ -212,55 +198,33 @@ fn put_near(
 
 // The same by one of the two loops: less than 2^17 bytes lie between the first start and a gap behind the last. Where there
 // is no run, `first` can be any number, and w + first too large.
-fn put_spaced(
-    w: u64,
-    first: usize,
-    gap: usize,
-    size: usize,
-    count: usize,
-    memory: &[u8],
-    out: &mut [u8],
-) -> Composed
-    requires le_size { (1 ≤ size) × (gap ≤ 65536) × (length memory.now ≤ 65536) × (w + length memory.now ≤ 2 ^ 64)
-        × (total (spaced first gap size count) + 4 ≤ length out.old) }
-    requires separate { Separate (length memory.now) 0 (spaced first gap size count) }
-    ensures { Composing w memory.now (spaced first gap size count) out.old [] out.new result.length result.steps
-        × (result.steps ≡ count) }
+fn put_spaced(w: u64, runs: Spaced, memory: &[u8], out: &mut [u8]) -> Composed
+    requires { Apart runs w memory.now out.old }
+    ensures { Put runs w memory.now out.old out.new result }
 {
-    if count == 0 {
+    if runs.count == 0 {
         return Composed {
             length: 0,
             steps: 0,
         };
     }
-    if (w + first as u64) % 0x1_0000_0000_0000 < 0xffff_fffe_0000 {
-        return put_near(w, first, gap, size, count, memory, out);
+    if (w + runs.first as u64) % 0x1_0000_0000_0000 < 0xffff_fffe_0000 {
+        return put_near(w, runs, memory, out);
     }
-    put_apart(w, first, gap, size, count, memory, out)
+    put_apart(w, runs, memory, out)
 }
 
-// The patch of `count` runs of `size` bytes each, `gap` bytes from one start to the next: a step puts one.
-pub fn compose_spaced(
-    w: u64,
-    first: usize,
-    gap: usize,
-    size: usize,
-    count: usize,
-    memory: &[u8],
-    out: &mut [u8],
-) -> Composed
-    requires le_size { (1 ≤ size) × (gap ≤ 65536) × (length memory.now ≤ 65536) × (w + length memory.now ≤ 2 ^ 64)
-        × (total (spaced first gap size count) + 4 ≤ length out.old) }
-    requires separate { Separate (length memory.now) 0 (spaced first gap size count) }
-    ensures length_value { (result.length ≡ total (spaced first gap size count) + 4) × (result.steps ≡ count) }
-    ensures out_after { out.new ≡ overwritten out.old 0
-        (encode_runs (cut w memory.now (spaced first gap size count))) }
+// The patch of the runs: a step puts one.
+pub fn compose_spaced(w: u64, runs: Spaced, memory: &[u8], out: &mut [u8]) -> Composed
+    requires { Apart runs w memory.now out.old }
+    ensures length_value { (result.length ≡ total (runs_of runs) + 4) × (result.steps ≡ runs.count) }
+    ensures out_after { out.new ≡ overwritten out.old 0 (encode_runs (cut w memory.now (runs_of runs))) }
 {
-    if count == 1 {
-        let length = compose_one(w, first, size, memory, out);
+    if runs.count == 1 {
+        let length = compose_one(w, runs.first, runs.size, memory, out);
         return Composed { length, steps: 1 };
     }
-    let put = put_spaced(w, first, gap, size, count, memory, out);
+    let put = put_spaced(w, runs, memory, out);
     put_trailer(out, put.length, put.steps);
     Composed {
         length: put.length + 4,

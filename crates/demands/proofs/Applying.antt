@@ -6,6 +6,7 @@ use mathlib.Core.List.{List, [], ◌∷◌, ◌++◌}
 use mathlib.Core.Logic.{◌⊎◌, inl, inr}
 use native.Mathlib.Omega.{arith}
 use lib.ListN.{length, get_or}
+use Rattle.std.specs.Prelude.{Option, Some, None, Ok, Err}
 use Rattle.endian.specs.LittleEndian.{Bytes}
 use Rattle.writes.specs.Encoding.{PatchOf}
 use Rattle.writes.specs.Sets.{ByteWrite, Run, run, runs, overlay}
@@ -15,11 +16,8 @@ use Rattle.endian.proofs.Order.{two, absurdly, not-both}
 use Rattle.writes.proofs.Overlay.{length-overlay, get_or-overlay}
 use Rattle.writes.proofs.Runs.{bytes-encode}
 use Rattle.patch.specs.Answers.{applied_number}
-use Rattle.patch.specs.Applying.{lowest_outside, AppliedTo}
-use Rattle.patch.specs.declared.Applied.{Applied}
-use Rattle.patch.specs.declared.Applied.TheVariants.{Done, Window, BadPatch, Outside}
-use Rattle.patch.specs.declared.placing.Survey.{Survey}
-use Rattle.patch.specs.declared.placing.Survey.TheVariants.{Inside, Beyond}
+use Rattle.patch.specs.Applying.{Applied, lowest_outside, AppliedTo}
+use Rattle.patch.specs.declared.ApplyError.TheVariants.{Window, BadPatch, Outside}
 use Rattle.patch.proofs.Statements.{none_shared, one-outcome}
 use Rattle.demands.specs.Demand1.{ExactlyOne, OfApplying}
 use Rattle.demands.specs.Demand2.{SomeRunOutside, ApplyingDecided, OutsideNamesTheLowest}
@@ -40,27 +38,28 @@ patch-bytes S s p = subst Bytes (sym p.bytes) (bytes-encode S p.within.set)
 
 -- what isn't bytes is no patch
 module _ (W : ℕ) (mem s : List ℕ) (f : Bytes s → ⊥) where
-  only-window : window_ok W (length mem) ≡ false → (r : Applied) (mem' : List ℕ) → AppliedTo W mem s r mem' → (r ≡ Window) × (mem' ≡ mem)
+  only-window : window_ok W (length mem) ≡ false → (r : Applied) (mem' : List ℕ) → AppliedTo W mem s r mem'
+      → (r ≡ Err Window) × (mem' ≡ mem)
   unfolding AppliedTo
-  only-window e Window mem' h = (refl, h.1)
-  only-window e BadPatch mem' h = not-both (window_ok W (length mem)) h.0 e
-  only-window e (Outside k a) mem' h = not-both (window_ok W (length mem)) h.0 e
-  only-window e (Done k t) mem' h = not-both (window_ok W (length mem)) h.0 e
+  only-window e (Err Window) mem' h = (refl, h.1)
+  only-window e (Err BadPatch) mem' h = not-both (window_ok W (length mem)) h.0 e
+  only-window e (Err (Outside k a)) mem' h = not-both (window_ok W (length mem)) h.0 e
+  only-window e (Ok z) mem' h = not-both (window_ok W (length mem)) h.0 e
 
-  only-bad : window_ok W (length mem) ≡ true → (r : Applied) (mem' : List ℕ) → AppliedTo W mem s r mem' → (r ≡ BadPatch) × (mem' ≡ mem)
+  only-bad : window_ok W (length mem) ≡ true → (r : Applied) (mem' : List ℕ) → AppliedTo W mem s r mem' → (r ≡ Err BadPatch) × (mem' ≡ mem)
   unfolding AppliedTo
-  only-bad e Window mem' h = not-both (window_ok W (length mem)) e h.0
-  only-bad e BadPatch mem' h = (refl, h.2)
-  only-bad e (Outside k a) mem' h = absurd (f (patch-bytes h.1.0 s h.1.1))
-  only-bad e (Done k t) mem' h = absurd (f (patch-bytes h.1.0 s h.1.1))
+  only-bad e (Err Window) mem' h = not-both (window_ok W (length mem)) e h.0
+  only-bad e (Err BadPatch) mem' h = (refl, h.2)
+  only-bad e (Err (Outside k a)) mem' h = absurd (f (patch-bytes h.1.0 s h.1.1))
+  only-bad e (Ok z) mem' h = absurd (f (patch-bytes h.1.0 s h.1.1))
 
   refuses-others : ExactlyOne (AppliedTo W mem s)
   unfolding AppliedTo
   refuses-others = go (window_ok W (length mem)) refl
     where
       go : (b : Bool) → window_ok W (length mem) ≡ b → ExactlyOne (AppliedTo W mem s)
-      go false e = record { answer = Window; content = mem; meets = (e, refl); only = only-window e }
-      go true e = record { answer = BadPatch; content = mem; meets = (e, (λ S p. f (patch-bytes S s p)), refl); only = only-bad e }
+      go false e = record { answer = Err Window; content = mem; meets = (e, refl); only = only-window e }
+      go true e = record { answer = Err BadPatch; content = mem; meets = (e, (λ S p. f (patch-bytes S s p)), refl); only = only-bad e }
 
 pub apply_one : (W : ℕ) (mem s : List ℕ) → ExactlyOne (AppliedTo W mem s)
 apply_one W mem s = go (bytes-or-not s)
@@ -70,10 +69,10 @@ apply_one W mem s = go (bytes-or-not s)
     go (inr f) = refuses-others W mem s f
 
 pub apply_numbered : (r : Applied) → OfApplying (applied_number r)
-apply_numbered (Done k t) = inl refl
-apply_numbered Window = inr (inl refl)
-apply_numbered BadPatch = inr (inr (inl refl))
-apply_numbered (Outside k a) = inr (inr (inr refl))
+apply_numbered (Ok z) = inl refl
+apply_numbered (Err Window) = inr (inl refl)
+apply_numbered (Err BadPatch) = inr (inr (inl refl))
+apply_numbered (Err (Outside k a)) = inr (inr (inr refl))
 
 -- ---- the lowest run outside
 
@@ -108,17 +107,18 @@ nowhere : {X : Type 0} (t : ℕ) (q : List ℕ) (rs : List Run) → rs ≡ [] �
 nowhere t q (r ∷ rs) e x = absurd (omega (arith, ap length e))
 nowhere {X = X} t q [] e x = elim x [ ]
 
-lowest : (W L k n a : ℕ) (rs : List Run) → lowest_outside W L k rs ≡ Beyond n a → Lowest W L k n a rs
+lowest : (W L k n a : ℕ) (rs : List Run) → lowest_outside W L k rs ≡ Some (n, a) → Lowest W L k n a rs
 unfolding lowest_outside
 lowest W L k n a [] e = absurdly cc
 lowest W L k n a (run s p ∷ rs) e = go (in_window W L s (length p)) refl e (lowest W L (suc k) n a rs)
   where
-    go : (b : Bool) → in_window W L s (length p) ≡ b → cond b (lowest_outside W L (suc k) rs) (Beyond k s) ≡ Beyond n a
-        → (lowest_outside W L (suc k) rs ≡ Beyond n a → Lowest W L (suc k) n a rs) → Lowest W L k n a (run s p ∷ rs)
+    go : (b : Bool) → in_window W L s (length p) ≡ b → cond b (lowest_outside W L (suc k) rs) (Some (k, s)) ≡ Some (n, a)
+        → (lowest_outside W L (suc k) rs ≡ Some (n, a) → Lowest W L (suc k) n a rs) → Lowest W L k n a (run s p ∷ rs)
     go true i q f = past W L k n a s p rs i (f q)
     go false i q f =
-        let u : k ≡ n = cc in
-        let w : s ≡ a = cc in
+        let v : ◌≡◌ {A = ℕ × ℕ} (k, s) (n, a) = cc in
+        let u : k ≡ n = ap (λ (y : ℕ × ℕ). y.0) v in
+        let w : s ≡ a = ap (λ (y : ℕ × ℕ). y.1) v in
         subst (λ (y : ℕ). Lowest W L k n y (run s p ∷ rs)) w
         (record { before = []; bytes = p; after = rs; split = refl; number = omega arith; out = i; inside = λ t q. nowhere t q [] refl })
 
@@ -126,17 +126,17 @@ among-split : (a : ℕ) (p : List ℕ) (before after : List Run) → Among a p (
 among-split a p [] after = here
 among-split a p (r ∷ before) after = there (among-split a p before after)
 
-some-outside : (W L n a : ℕ) (rs : List Run) → lowest_outside W L 0 rs ≡ Beyond n a → SomeRunOutside W L rs
+some-outside : (W L n a : ℕ) (rs : List Run) → lowest_outside W L 0 rs ≡ Some (n, a) → SomeRunOutside W L rs
 some-outside W L n a rs e =
     let l = lowest W L 0 n a rs e in
     (a, l.bytes, subst (Among a l.bytes) (sym l.split) (among-split a l.bytes l.before l.after), l.out)
 
 -- where none is outside there is none
-front-inside : (b : Bool) (v : Survey) (k s : ℕ) → cond b v (Beyond k s) ≡ Inside → (b ≡ true) × (v ≡ Inside)
+front-inside : (b : Bool) (v : Option (ℕ × ℕ)) (k s : ℕ) → cond b v (Some (k, s)) ≡ None → (b ≡ true) × (v ≡ None)
 front-inside true v k s e = (refl, e)
 front-inside false v k s e = absurdly cc
 
-none-outside : (W L k : ℕ) (rs : List Run) → lowest_outside W L k rs ≡ Inside → (a : ℕ) (p : List ℕ) → Among a p rs
+none-outside : (W L k : ℕ) (rs : List Run) → lowest_outside W L k rs ≡ None → (a : ℕ) (p : List ℕ) → Among a p rs
     → in_window W L a (length p) ≡ true
 unfolding lowest_outside
 none-outside W L k (run s q ∷ rs) e a p here = (front-inside (in_window W L a (length p)) (lowest_outside W L (suc k) rs) k a e).0
@@ -152,23 +152,23 @@ same S S' s p p' = ap runs (none_shared S S' s p p')
 
 pub applying-decided : ApplyingDecided
 unfolding AppliedTo
-applying-decided W mem s Window mem' h = (
+applying-decided W mem s (Err Window) mem' h = (
   ((λ e. h.0), (λ w. refl)),
   ((λ e. absurd (omega (arith, e))), (λ w. not-both (window_ok W (length mem)) w.0 h.0)),
   ((λ e. absurd (omega (arith, e))), (λ w. not-both (window_ok W (length mem)) w.0 h.0)),
 )
-applying-decided W mem s BadPatch mem' h = (
+applying-decided W mem s (Err BadPatch) mem' h = (
   ((λ e. absurd (omega (arith, e))), (λ w. not-both (window_ok W (length mem)) h.0 w)),
   ((λ e. (h.0, λ x. h.1 x.0 x.1)), (λ w. refl)),
   ((λ e. absurd (omega (arith, e))), (λ w. absurd (h.1 w.1.0 w.1.1))),
 )
-applying-decided W mem s (Outside k a) mem' h =
+applying-decided W mem s (Err (Outside k a)) mem' h =
     let x = h.1 in (
       ((λ e. absurd (omega (arith, e))), (λ w. not-both (window_ok W (length mem)) h.0 w)),
       ((λ e. absurd (omega (arith, e))), (λ w. absurd (w.1 (x.0, x.1)))),
       ((λ e. (h.0, (x.0, x.1, some-outside W (length mem) k a (runs x.0) x.2))), (λ w. refl)),
     )
-applying-decided W mem s (Done k t) mem' h =
+applying-decided W mem s (Ok z) mem' h =
     let x = h.1 in (
       ((λ e. absurd (omega (arith, e))), (λ w. not-both (window_ok W (length mem)) h.0 w)),
       ((λ e. absurd (omega (arith, e))), (λ w. absurd (w.1 (x.0, x.1)))),
@@ -194,7 +194,7 @@ outside-names-the-lowest W mem s k a mem' S h p =
 
 pub lays-the-set : LaysTheSet
 unfolding AppliedTo
-lays-the-set W mem s k t mem' S h p =
+lays-the-set W mem s z mem' S h p =
     let x = h.1 in
     let q : x.0 ≡ S = none_shared x.0 S s x.1 p in
     let l : mem' ≡ overlay W mem S = x.5 ∙ ap (overlay W mem) q in (

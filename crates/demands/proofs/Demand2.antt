@@ -1,4 +1,5 @@
 -- Demand 2. Assumes nothing.
+use Rattle.std.specs.Prelude.{Ok, Err}
 use mathlib.Core.Path.{◌≡◌, refl}
 use mathlib.Core.List.{[], ◌∷◌}
 use Rattle.encoding.specs.Classes.{classes}
@@ -6,10 +7,8 @@ use Rattle.encoding.proofs.Statements.{decodes-its-class, undefined-outside, one
 use Rattle.encoding.proofs.Statements.{refused-for-a-cause, encodes_decoded, decodes_encoded}
 use Rattle.encoding.proofs.Numbers.{numbers_from_bits}
 use Rattle.codec.proofs.Statements.{encodes_decoded_numbers, decodes_encoded_numbers, refuses-numbers}
-use Rattle.verdicts.specs.Verdicts.{number}
+use Rattle.verdicts.specs.Verdicts.{number, Verdict}
 use Rattle.verdicts.specs.declared.Refusal.TheVariants.{Length, Registers, Window, Undefined, Illegal, Stack, Fault, Overlap, NoRoom}
-use Rattle.verdicts.specs.declared.Verdict.{Verdict}
-use Rattle.verdicts.specs.declared.Verdict.TheVariants.{Done, Refused}
 use Rattle.verdicts.proofs.Statements.{table-numbered, table-in-order, table-given-when}
 use Rattle.outcomes.specs.Storing.{numbers}
 use Rattle.demands.specs.Demand2.{StoringReturns, Demand2}
@@ -23,16 +22,16 @@ storing_returns : StoringReturns
 storing_returns = ((λ n b k t. refl), (λ e a. refl), (λ e a. refl), (λ v p q r. zeros v p q r))
   where
     zeros : (v : Verdict) → (number v ≡ 0 → ⊥) → (number v ≡ 7 → ⊥) → (number v ≡ 12 → ⊥) → numbers v ≡ 0 ∷ 0 ∷ 0 ∷ 0 ∷ 0 ∷ 0 ∷ []
-    zeros (Done n b k t) p q r = absurd (p refl)
-    zeros (Refused Length) p q r = refl
-    zeros (Refused Registers) p q r = refl
-    zeros (Refused Window) p q r = refl
-    zeros (Refused Undefined) p q r = refl
-    zeros (Refused Illegal) p q r = refl
-    zeros (Refused Stack) p q r = refl
-    zeros (Refused (Fault e a)) p q r = absurd (q refl)
-    zeros (Refused (Overlap e a)) p q r = absurd (r refl)
-    zeros (Refused NoRoom) p q r = refl
+    zeros (Ok d) p q r = absurd (p refl)
+    zeros (Err Length) p q r = refl
+    zeros (Err Registers) p q r = refl
+    zeros (Err Window) p q r = refl
+    zeros (Err Undefined) p q r = refl
+    zeros (Err Illegal) p q r = refl
+    zeros (Err Stack) p q r = refl
+    zeros (Err (Fault e a)) p q r = absurd (q refl)
+    zeros (Err (Overlap e a)) p q r = absurd (r refl)
+    zeros (Err NoRoom) p q r = refl
 
 pub demand2 : Demand2
 unfolding classes
@@ -67,7 +66,7 @@ demand2 =
       overlap_names = overlap-names-the-lowest;
       outside_names = outside-names-the-lowest;
       storing_returns = storing_returns;
-      applying_returns = ((λ k t. refl), (λ k a. refl), refl, refl);
-      judging_returns = ((λ k t. (refl, refl)), (λ k a. (refl, refl)));
+      applying_returns = ((λ z. refl), (λ k a. refl), refl, refl);
+      judging_returns = ((λ z. (refl, refl)), (λ n. (refl, refl)));
       codec_returns = (refl, refl);
     }

@@ -9,6 +9,7 @@ use borrow.Author.Tests.{ltb-true, ltb-false, lt-ltb, le-ltb}
 use lib.Dec.{ltb}
 use lib.ListN.{length, take, drop, replicate, length-replicate}
 use lib.Seq.{take_at, drop_at}
+use Rattle.std.specs.Prelude.{Ok}
 use Rattle.encoding.specs.Decoding.{decode_of}
 use Rattle.writes.specs.Elements.{InWindow, written, steps_of}
 use Rattle.writes.specs.Encoding.{encode, PatchOf}
@@ -19,18 +20,15 @@ use Rattle.writes.proofs.Runs.{bytes-encode}
 use Rattle.writes.proofs.Statements.{equal_lookups, runs-as-described, run_at_each_start, runs-keep-the-rules, encoding_length}
 use Rattle.writes.proofs.Statements.{largest_patch, written_last, laid-as-written, net-effect-in-window}
 use Rattle.elements.specs.Machine.{Machine}
-use Rattle.verdicts.specs.Verdicts.{elements_for, size_for, patch_of, row, table, decided, done_of, verdict_of}
+use Rattle.verdicts.specs.Verdicts.{elements_for, size_for, patch_of, row, table, decided, done_of, verdict_of, Verdict, done}
 use Rattle.verdicts.specs.Statements.{before}
 use Rattle.verdicts.specs.declared.Flags.{Flags}
 use Rattle.verdicts.specs.declared.Refusal.TheVariants.{NoRoom}
-use Rattle.verdicts.specs.declared.Verdict.{Verdict}
-use Rattle.verdicts.specs.declared.Verdict.TheVariants.{Done}
-use Rattle.verdicts.proofs.Rows.{none_done, decides-given, decides-before, before-decides, none-parted, none-joined}
+use Rattle.verdicts.proofs.Rows.{done-same, none_done, decides-given, decides-before, before-decides, none-parted, none-joined}
 use Rattle.verdicts.proofs.Statements.{table-given-when}
 use Rattle.outcomes.specs.Storing.{memory_after, Stored}
 use Rattle.patch.specs.Answers.{applied_number}
 use Rattle.patch.specs.Applying.{AppliedTo}
-use Rattle.patch.specs.declared.Applied.TheVariants as A
 use Rattle.patch.proofs.Statements.{read_as_patch, whatever_window, judges_alike, one_encoding, none_shared, one-outcome, applied-inside}
 use Rattle.demands.specs.Demand2.{table_for}
 use Rattle.demands.specs.Demand3.{DoneOver, Filling, effect_for, patch_for, HasRoom, HandsOut, Leaves, DoneWithRoom, WhateverFilling}
@@ -84,10 +82,10 @@ whatever_filling f m W mem mem₁ word buffer buffer₁ v v₁ mem' mem₁' buff
 -- ---- what is handed out
 
 stored-length : (f : Flags) (m : Machine) (W : ℕ) (mem : List ℕ) (word : ℕ) (buffer : List ℕ) (n b k t : ℕ) (mem' buffer' : List ℕ)
-    → Stored f m W mem word buffer (Done n b k t) mem' buffer' → k ≡ length (patch_for m word)
+    → Stored f m W mem word buffer (done n b k t) mem' buffer' → k ≡ length (patch_for m word)
 stored-length f m W mem word buffer n b k t mem' buffer' c =
-    let q = (is-done f m W mem word buffer (Done n b k t) mem' buffer' c refl).answer in
-    cc
+    let q = (is-done f m W mem word buffer (done n b k t) mem' buffer' c refl).answer in
+    (done-same q).2
 
 keeps_behind : KeepsBehind
 keeps_behind f m W mem word buffer n b k t mem' buffer' c =
@@ -209,13 +207,13 @@ unfolding patch_of
 applies-as-it-stores f m W L word d mem buffer s g h x x' i l r x'' a =
     let S = effect_for m word in
     let e = comes-with f m W L word d in
-    let p : AppliedTo W x (encode S) (A.Done (length (runs S)) (length S)) (overlay W x S) =
+    let p : AppliedTo W x (encode S) (Ok (record { runs = length (runs S); bytes = length S })) (overlay W x S) =
     applied-inside W x S (subst (λ (n : ℕ). window_ok W n ≡ true) (sym i.long) e.window) e.within
     (λ y b k. subst (λ (n : ℕ). (W ≤ y) × (y < W + n)) (sym i.long) (writes-in f m W L word d y b k)) in
     let b : AppliedTo W x (encode S) r x'' = subst (λ (t : List ℕ). AppliedTo W x t r x'') (hands f m W mem word buffer s h) a in
     let o = one-outcome W x (encode S) (bytes-encode S e.within.set) in
     let u = o.3 r x'' b in
-    let v = o.3 (A.Done (length (runs S)) (length S)) (overlay W x S) p in
+    let v = o.3 (Ok (record { runs = length (runs S); bytes = length S })) (overlay W x S) p in
     (ap applied_number (u.0 ∙ sym v.0), u.1 ∙ sym v.1 ∙ sym (leaves f m W L word d x i x' l))
 
 pub demand3 : Demand3

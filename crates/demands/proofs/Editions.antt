@@ -1,4 +1,5 @@
 -- Document 02 (vi): both rules for the vector length. Assumes nothing.
+use Rattle.std.specs.Prelude.{Some, Err}
 use mathlib.Core.Path.{◌≡◌, refl, sym, ap, ◌∙◌, subst}
 use mathlib.Core.Bool.{Bool, true, false, not, cond, ◌&&◌, ◌||◌}
 use mathlib.Core.Logic.{◌↔◌, ◌⊎◌, inl, inr, ⊎_elim}
@@ -11,7 +12,6 @@ use borrow.Author.Tests.{eqb-true}
 use Rattle.encoding.specs.Classes.{Class, no_class, classes, class_at}
 use Rattle.encoding.specs.Decoding.{decode_of}
 use Rattle.encoding.specs.Encoding.{class_for, row_for}
-use Rattle.encoding.specs.declared.Decoded.TheVariants as D
 use Rattle.encoding.specs.declared.Store.{Store}
 use Rattle.encoding.specs.declared.Store.TheVariants.{Strided}
 use Rattle.encoding.specs.declared.StridedFields.{StridedFields}
@@ -20,12 +20,10 @@ use Rattle.encoding.proofs.Statements.{one_of, accepted, known-accepted}
 use Rattle.elements.specs.Machine.{Machine}
 use Rattle.elements.specs.Stores.{step_of, per_register}
 use Rattle.elements.proofs.Numbers.{per-is}
-use Rattle.verdicts.specs.Verdicts.{length_ok, registers_ok, undefined, illegal_for, decided, verdict_of, number}
+use Rattle.verdicts.specs.Verdicts.{length_ok, registers_ok, undefined, illegal_for, decided, verdict_of, number, Verdict}
 use Rattle.verdicts.specs.Statements.{OneOfFive, AnyMultiple, AllowedLength}
 use Rattle.verdicts.specs.declared.Flags.{Flags}
 use Rattle.verdicts.specs.declared.Refusal.TheVariants.{Length, Registers, Window, Undefined, Illegal}
-use Rattle.verdicts.specs.declared.Verdict.{Verdict}
-use Rattle.verdicts.specs.declared.Verdict.TheVariants.{Refused}
 use Rattle.verdicts.proofs.Rows.{decides-given}
 use Rattle.verdicts.proofs.Words.{five-multiple, length-given}
 use Rattle.verdicts.proofs.Statements.{table-given-when}
@@ -78,9 +76,9 @@ nothing_else f f₁ m m₁ word word₁ v v₁ c c₁ p q r n =
 -- one of the first five lines is given: 1 or 5
 within : (a b c d e : Bool) (x : Verdict) → (a ≡ true) ⊎ (e ≡ true)
     → let n = number
-    (cond a (Refused Length)
-    (cond b (Refused Registers)
-    (cond c (Refused Window) (cond d (Refused Undefined) (cond e (Refused Illegal) x)))))
+    (cond a (Err Length)
+    (cond b (Err Registers)
+    (cond c (Err Window) (cond d (Err Undefined) (cond e (Err Illegal) x)))))
     in (1 ≤ n) × (n ≤ 5)
 within true b c d e x o = (omega arith, omega arith)
 within false true c d e x o = (omega arith, omega arith)
@@ -93,7 +91,7 @@ within false false false false false x o = absurd (⊎_elim (λ e. never e) (λ 
     never e = absurdly cc
 
 strided_refused : (f : Flags) (m : Machine) (word : ℕ) (v : Verdict) (g : StridedFields) → Answered f m word v
-    → decode_of word ≡ D.Known (Strided g) → (OneOfFive m.vb → ⊥) → (1 ≤ number v) × (number v ≤ 5)
+    → decode_of word ≡ Some (Strided g) → (OneOfFive m.vb → ⊥) → (1 ≤ number v) × (number v ≤ 5)
 unfolding verdict_of decided
 strided_refused f m word v g c d h =
     subst (λ (y : Verdict). (1 ≤ number y) × (number y ≤ 5)) (sym c.call.answer)
@@ -134,7 +132,7 @@ divides vb n h w =
     by : (k : ℕ) → n ≡ k → vb / k * k ≡ vb → vb / n * n ≡ vb
     by k e q = ap (λ (y : ℕ). vb / y * y) e ∙ q
 
-fill : (m : Machine) (word : ℕ) (s : Store) → decode_of word ≡ D.Known s → AnyMultiple m.vb
+fill : (m : Machine) (word : ℕ) (s : Store) → decode_of word ≡ Some s → AnyMultiple m.vb
     → per_register m (class_for s) * step_of (class_for s) ≡ m.vb
 unfolding steps class_at
 fill m word s d ((k, q), l, h) =

@@ -1,4 +1,5 @@
 -- What a done store comes with: its elements lie in the window, and its net effect is within the sizes. Assumes nothing.
+use Rattle.std.specs.Prelude.{Some}
 use mathlib.Core.Path.{◌≡◌, sym, ap, ◌∙◌, subst}
 use Prim.Native.Nat.{ℕ, suc, ◌+◌, ◌-◌, ◌*◌, ◌/◌, ◌^◌, ◌≤◌, ◌<◌}
 use mathlib.Core.Bool.{true, false}
@@ -9,7 +10,6 @@ use native.Mathlib.Omega.{arith}
 use lib.ListN.{length, drop}
 use Rattle.encoding.specs.Decoding.{decode_of}
 use Rattle.encoding.specs.Encoding.{row_for, class_for, refused}
-use Rattle.encoding.specs.declared.Decoded.TheVariants as D
 use Rattle.encoding.specs.declared.Store.{Store}
 use Rattle.encoding.specs.declared.Store.TheVariants.{Scatter, Strided, Quadword}
 use Rattle.encoding.specs.declared.StridedFields.{StridedFields}
@@ -82,7 +82,8 @@ module _ (m : Machine) (o : Sound m.vb m.z m.p) (lent : Bytes m.z) where
 
       runs-all : length (runs (net_effect (elements m s))) ≤ count_of m s
       unfolding elements
-      runs-all = omega (arith, runs-most, steps-length none (elements m s), actives-length (active_at m s) (element_at m s) (count_of m s) 0)
+      runs-all =
+          omega (arith, runs-most, steps-length none (elements m s), actives-length (active_at m s) (element_at m s) (count_of m s) 0)
 
       bytes-all : length (net_effect (elements m s)) ≤ count_of m s * size_of (class_for s)
       unfolding elements
@@ -207,7 +208,7 @@ module _ (m : Machine) (o : Sound m.vb m.z m.p) (lent : Bytes m.z) where
 -- ---- together
 
 -- no more runs than steps
-pub runs-within : (f : Flags) (m : Machine) (W L word : ℕ) (s : Store) → DoneOver f m W L word → decode_of word ≡ D.Known s
+pub runs-within : (f : Flags) (m : Machine) (W L word : ℕ) (s : Store) → DoneOver f m W L word → decode_of word ≡ Some s
     → length (runs (net_effect (elements m s))) ≤ steps_of (elements m s)
 runs-within f m W L word s d e =
     let t = settled f m W L word 0 (none-parted 7 (before 8 (table f m W L (decode_of word) 0)) d.none_due).0 in

@@ -1,4 +1,5 @@
 -- Document 02 (vii): a strided store's active elements, whatever their width. Assumes nothing.
+use Rattle.std.specs.Prelude.{Some}
 use mathlib.Core.Path.{◌≡◌, sym, ap, ◌∙◌, subst}
 use Prim.Native.Nat.{ℕ, ◌+◌, ◌-◌, ◌*◌, ◌/◌, ◌%◌, ◌^◌, ◌≤◌, ◌<◌}
 use mathlib.Core.Bool.{false, ◌&&◌}
@@ -8,7 +9,6 @@ use lib.ListN.{length}
 use lib.Pow.{pow_mono}
 use Rattle.encoding.specs.Decoding.{decode_of}
 use Rattle.encoding.specs.Encoding.{class_for, refused}
-use Rattle.encoding.specs.declared.Decoded.TheVariants.{Known}
 use Rattle.encoding.specs.declared.Store.TheVariants.{Strided}
 use Rattle.encoding.specs.declared.StridedFields.{StridedFields}
 use Rattle.encoding.proofs.Statements.{known-accepted}
@@ -50,7 +50,7 @@ module _ (m : Machine) (f : StridedFields) (a : refused (Strided f) ≡ false) w
 
 -- of a done store
 module _ (fl : Flags) (m : Machine) (W L word : ℕ) (f : StridedFields) (d : DoneOver fl m W L word)
-    (e : decode_of word ≡ Known (Strided f)) where
+    (e : decode_of word ≡ Some (Strided f)) where
   accepted : refused (Strided f) ≡ false
   accepted = known-accepted word (Strided f) e
 

@@ -1,4 +1,6 @@
 -- What demands 1 and 2 say of the merged call. Assumes nothing.
+use Rattle.std.specs.Prelude.{Some, None, Ok, Err}
+use Rattle.std.specs.Prelude as P
 use mathlib.Core.Path.{◌≡◌, refl, sym, ap, ◌∙◌, subst}
 use mathlib.Core.Bool.{Bool, true, false, not, cond}
 use mathlib.Core.List.{List, ◌∷◌}
@@ -11,8 +13,6 @@ use lib.Dec.{ltb}
 use lib.ListN.{length, get_or}
 use Rattle.encoding.specs.Decoding.{decode_of}
 use Rattle.encoding.specs.Encoding.{class_for, refused}
-use Rattle.encoding.specs.declared.Decoded.{Decoded}
-use Rattle.encoding.specs.declared.Decoded.TheVariants as D
 use Rattle.encoding.specs.declared.Store.{Store}
 use Rattle.encoding.specs.declared.Store.TheVariants.{Scatter, Strided, Quadword}
 use Rattle.encoding.proofs.Statements.{known-accepted}
@@ -27,15 +27,13 @@ use Rattle.elements.specs.Machine.{Machine}
 use Rattle.elements.specs.Stores.{size_of, count_of}
 use Rattle.elements.specs.Elements.{active_at, element_at, actives, elements}
 use Rattle.verdicts.specs.Verdicts.{elements_for, size_for, patch_of, length_ok, registers_ok, undefined, first_outside, found, fault_of}
-use Rattle.verdicts.specs.Verdicts.{overlap, overlap_of}
+use Rattle.verdicts.specs.Verdicts.{overlap, overlap_of, Verdict, done}
 use Rattle.verdicts.specs.Verdicts.{table, decided, done_of, verdict_of, refusal_number, number}
 use Rattle.verdicts.specs.Statements.{NoneGiven, Decides, before, Listed}
 use Rattle.verdicts.specs.declared.Flags.{Flags}
 use Rattle.verdicts.specs.declared.Refusal.{Refusal}
 use Rattle.verdicts.specs.declared.Refusal.TheVariants.{Length, Registers, Window, Undefined, Illegal, Stack, Fault, Overlap, NoRoom}
-use Rattle.verdicts.specs.declared.Verdict.{Verdict}
-use Rattle.verdicts.specs.declared.Verdict.TheVariants.{Done, Refused}
-use Rattle.verdicts.proofs.Rows.{none_done, decides-given, decides-before, before-decides, before-decided, none-parted}
+use Rattle.verdicts.proofs.Rows.{done-same, none_done, decides-given, decides-before, before-decides, before-decided, none-parted}
 use Rattle.verdicts.proofs.Words.{outside-found, none_found}
 use Rattle.verdicts.proofs.Statements.{first-given-decides, table-numbered, table-given-when}
 use Rattle.outcomes.specs.Storing.{memory_after, buffer_after, Stored}
@@ -77,13 +75,13 @@ refusal-numbered (Overlap e a) = inr refl
 refusal-numbered NoRoom = inl (omega arith)
 
 pub numbered : (v : Verdict) → OfStoring (number v)
-numbered (Done n b k t) = inl (omega arith)
-numbered (Refused r) = refusal-numbered r
+numbered (Ok d) = inl (omega arith)
+numbered (Err r) = refusal-numbered r
 
 pub store_keeps : (f : Flags) (m : Machine) (W : ℕ) (mem : List ℕ) (word : ℕ) (buffer : List ℕ) (v : Verdict) (mem' buffer' : List ℕ)
     → Stored f m W mem word buffer v mem' buffer' → (number v ≡ 0 → ⊥) → (mem' ≡ mem) × (buffer' ≡ buffer)
-store_keeps f m W mem word buffer (Done n b k t) mem' buffer' c h = absurd (h refl)
-store_keeps f m W mem word buffer (Refused r) mem' buffer' c h = (c.memory, c.patch)
+store_keeps f m W mem word buffer (Ok d) mem' buffer' c h = absurd (h refl)
+store_keeps f m W mem word buffer (Err r) mem' buffer' c h = (c.memory, c.patch)
 
 -- ---- the list of active elements
 
@@ -127,15 +125,15 @@ not-off : (b : Bool) → not b ≡ false → b ≡ true
 not-off true e = refl
 not-off false e = absurdly cc
 
-known : (f : Flags) (d : Decoded) → undefined f d ≡ false → (s : Store) × (d ≡ D.Known s)
-known f D.Undefined e = absurdly cc
-known f (D.Known s) e = (s, refl)
+known : (f : Flags) (d : P.Option Store) → undefined f d ≡ false → (s : Store) × (d ≡ Some s)
+known f None e = absurdly cc
+known f (Some s) e = (s, refl)
 
 pub record Settled (m : Machine) (W L word : ℕ) : Type 0 where
   pub buffers : Sound m.vb m.z m.p
   pub window : window_ok W L ≡ true
   pub store : Store
-  pub decoded : decode_of word ≡ D.Known store
+  pub decoded : decode_of word ≡ Some store
   pub accepted : refused store ≡ false
 
 pub settled : (f : Flags) (m : Machine) (W L word room : ℕ) → NoneGiven (before 7 (table f m W L (decode_of word) room))
@@ -181,8 +179,8 @@ fault-given f m W mem word buffer v mem' buffer' c =
           let d = q.0 e in
           let b = decides-before 7 rs d in
           let x = (table-given-when f m W L (decode_of word) (length buffer)).fault.0 (decides-given 7 rs d) in
-          let some = listed-some m W L word x.0 (settled f m W L word (length buffer) b) x.1 in
-          (b, (x.0, x.1, byte-outside W L x.0.address (length x.0.bytes) some x.2))),
+          let some_byte = listed-some m W L word x.0 (settled f m W L word (length buffer) b) x.1 in
+          (b, (x.0, x.1, byte-outside W L x.0.address (length x.0.bytes) some_byte x.2))),
       (λ h.
           let x = h.1 in
           let k = x.2 in
@@ -199,20 +197,21 @@ record Faults (W L e a : ℕ) (xs : List Element) : Type 0 where
   address : a ≡ byte_outside W L element.address (length element.bytes)
 
 fault-is : (f : Flags) (m : Machine) (W : ℕ) (mem : List ℕ) (word : ℕ) (buffer : List ℕ) (e a : ℕ) (mem' buffer' : List ℕ)
-    → Stored f m W mem word buffer (Refused (Fault e a)) mem' buffer' → Faults W (length mem) e a (elements_for m (decode_of word))
+    → Stored f m W mem word buffer (Err (Fault e a)) mem' buffer' → Faults W (length mem) e a (elements_for m (decode_of word))
 unfolding verdict_of decided
 fault-is f m W mem word buffer e a mem' buffer' c =
     let rs = table_for f m W mem word buffer in
     let es = elements_for m (decode_of word) in
-    let d = ((storing-decided f m W mem word buffer (Refused (Fault e a)) mem' buffer' c).0 7 (λ q. omega (arith, q))).0 refl in
+    let d = ((storing-decided f m W mem word buffer (Err (Fault e a)) mem' buffer' c).0 7 (λ q. omega (arith, q))).0 refl in
     go (first_outside W (length mem) es) refl (overlap f es) (first_overlap es) (ltb (length buffer) (length (patch_of es)))
     (c.answer ∙ before-decided 7 rs _ (decides-before 7 rs d))
   where
-    go : (o : Option Element) → first_outside W (length mem) (elements_for m (decode_of word)) ≡ o → (u : Bool) (p : Option Element) (t : Bool)
-        → Refused (Fault e a)
-        ≡ cond (found o) (Refused (fault_of W (length mem) o))
-        (cond u (Refused (overlap_of p))
-        (cond t (Refused NoRoom) (done_of (elements_for m (decode_of word)) (size_for (decode_of word)))))
+    go : (o : Option Element) → first_outside W (length mem) (elements_for m (decode_of word)) ≡ o
+        → (u : Bool) (p : Option Element) (t : Bool)
+        → Err (Fault e a)
+        ≡ cond (found o) (Err (fault_of W (length mem) o))
+        (cond u (Err (overlap_of p))
+        (cond t (Err NoRoom) (done_of (elements_for m (decode_of word)) (size_for (decode_of word)))))
         → Faults W (length mem) e a (elements_for m (decode_of word))
     go none q true none t r = absurdly cc
     go none q true (some x) t r = absurdly cc
@@ -222,10 +221,10 @@ fault-is f m W mem word buffer e a mem' buffer' c =
 
 -- what is settled where 7 is answered
 fault-settled : (f : Flags) (m : Machine) (W : ℕ) (mem : List ℕ) (word : ℕ) (buffer : List ℕ) (e a : ℕ) (mem' buffer' : List ℕ)
-    → Stored f m W mem word buffer (Refused (Fault e a)) mem' buffer' → Settled m W (length mem) word
+    → Stored f m W mem word buffer (Err (Fault e a)) mem' buffer' → Settled m W (length mem) word
 fault-settled f m W mem word buffer e a mem' buffer' c =
     let rs = table_for f m W mem word buffer in
-    let d = ((storing-decided f m W mem word buffer (Refused (Fault e a)) mem' buffer' c).0 7 (λ q. omega (arith, q))).0 refl in
+    let d = ((storing-decided f m W mem word buffer (Err (Fault e a)) mem' buffer' c).0 7 (λ q. omega (arith, q))).0 refl in
     settled f m W (length mem) word (length buffer) (decides-before 7 rs d)
 
 -- an element's address is one of 64 bits
@@ -240,7 +239,7 @@ unfolding elements element_at
 fault-names-the-lowest f m W mem word buffer e a mem' buffer' s c k =
     let t = fault-is f m W mem word buffer e a mem' buffer' c in
     let q : first_outside W (length mem) (elements m s) ≡ some t.element =
-    sym (ap (λ (d : Decoded). first_outside W (length mem) (elements_for m d)) k) ∙ t.first in
+    sym (ap (λ (d : P.Option Store). first_outside W (length mem) (elements_for m d)) k) ∙ t.first in
     let l = first-outside (active_at m s) (element_at m s) W (length mem) (count_of m s) 0 t.element q in
     let i : l.among.at ≡ e = sym (t.number ∙ ap (λ (x : Element). x.number) l.among.is) in
     let x : t.element ≡ element_at m s e = l.among.is ∙ ap (element_at m s) i in
@@ -281,7 +280,7 @@ is-done f m W mem word buffer v mem' buffer' c e =
 pub byte_by_byte : ByteByByte
 byte_by_byte f m W mem word buffer n b k t mem' buffer' c =
     let es = elements_for m (decode_of word) in
-    let d = is-done f m W mem word buffer (Done n b k t) mem' buffer' c refl in
+    let d = is-done f m W mem word buffer (done n b k t) mem' buffer' c refl in
     let q : mem' ≡ overlay W mem (net_effect es) =
     c.memory ∙ sym (laid-as-written W mem es (all-inside f m W (length mem) word d.none_due)) in (
       ap length q ∙ length-overlay W mem (net_effect es),
@@ -293,7 +292,7 @@ byte_by_byte f m W mem word buffer n b k t mem' buffer' c =
 
 pub counts-of-done : CountsOfDone
 counts-of-done f m W mem word buffer n b k t mem' buffer' s c e =
-    let d = is-done f m W mem word buffer (Done n b k t) mem' buffer' c refl in
-    let q : Done n b k t ≡ done_of (elements m s) (size_of (class_for s)) =
-    d.answer ∙ ap (λ (x : Decoded). done_of (elements_for m x) (size_for x)) e in
-    (cc, cc, cc, cc)
+    let d = is-done f m W mem word buffer (done n b k t) mem' buffer' c refl in
+    let q : done n b k t ≡ done_of (elements m s) (size_of (class_for s)) =
+    d.answer ∙ ap (λ (x : P.Option Store). done_of (elements_for m x) (size_for x)) e in
+    done-same q

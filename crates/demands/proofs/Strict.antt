@@ -1,4 +1,6 @@
 -- Document 02 (viii): when 12 is given, what it names, and what a strict store is. Assumes nothing.
+use Rattle.std.specs.Prelude.{Some, None, Err}
+use Rattle.std.specs.Prelude as P
 use mathlib.Core.Path.{◌≡◌, refl, sym, ap, ◌∙◌, subst}
 use mathlib.Core.Bool.{Bool, true, false, not, cond, ◌&&◌}
 use mathlib.Core.List.{List, [], ◌∷◌}
@@ -9,8 +11,6 @@ use lib.Dec.{ltb}
 use lib.ListN.{length}
 use Rattle.encoding.specs.Decoding.{decode_of}
 use Rattle.encoding.specs.Encoding.{row_for, class_for, feature_of}
-use Rattle.encoding.specs.declared.Decoded.{Decoded}
-use Rattle.encoding.specs.declared.Decoded.TheVariants as D
 use Rattle.encoding.specs.declared.Feature.{Feature}
 use Rattle.encoding.specs.declared.Feature.TheVariants.{SVE, SME2, SVE2p1}
 use Rattle.encoding.specs.declared.Store.{Store}
@@ -29,14 +29,13 @@ use Rattle.accesses.proofs.Listing.{strided-elements}
 use Rattle.accesses.proofs.Soundness.{strided-sound}
 use Rattle.accesses.proofs.Apart.{strided-no-overlap}
 use Rattle.window.specs.Window.{window_ok}
-use Rattle.verdicts.specs.Verdicts.{length_ok, registers_ok, flag_on, illegal, Row, row}
-use Rattle.verdicts.specs.Verdicts.{elements_for, size_for, patch_of, found, overlap, overlap_of, table, decided, done_of, verdict_of, number}
+use Rattle.verdicts.specs.Verdicts.{length_ok, registers_ok, flag_on, illegal, Row, row, Verdict, done}
+use Rattle.verdicts.specs.Verdicts.{elements_for, size_for, patch_of, found, overlap, overlap_of, table, decided, done_of}
+use Rattle.verdicts.specs.Verdicts.{verdict_of, number}
 use Rattle.verdicts.specs.Statements.{Given, NoneGiven, before, without, StandsBefore, TwoShare}
 use Rattle.verdicts.specs.declared.Flags.{Flags}
 use Rattle.verdicts.specs.declared.Refusal.TheVariants.{Length, Registers, Window, Undefined, Illegal, Overlap, NoRoom}
-use Rattle.verdicts.specs.declared.Verdict.{Verdict}
-use Rattle.verdicts.specs.declared.Verdict.TheVariants.{Done, Refused}
-use Rattle.verdicts.proofs.Rows.{from, decides-given, decides-before, before-decides, before-decided, none-parted}
+use Rattle.verdicts.proofs.Rows.{done-same, from, decides-given, decides-before, before-decides, before-decided, none-parted}
 use Rattle.verdicts.proofs.Rows.{without-undue, without-undecided}
 use Rattle.verdicts.proofs.Words.{Shared, with-true, true-with}
 use Rattle.verdicts.proofs.Words as words
@@ -118,19 +117,19 @@ record Names (e a : ℕ) (xs : List Element) : Type 0 where
   address : a ≡ element.address
 
 names : (f : Flags) (m : Machine) (W : ℕ) (mem : List ℕ) (word : ℕ) (buffer : List ℕ) (e a : ℕ) (mem' buffer' : List ℕ)
-    → Stored f m W mem word buffer (Refused (Overlap e a)) mem' buffer' → Names e a (elements_for m (decode_of word))
+    → Stored f m W mem word buffer (Err (Overlap e a)) mem' buffer' → Names e a (elements_for m (decode_of word))
 unfolding verdict_of decided
 names f m W mem word buffer e a mem' buffer' c =
     let rs = table_for f m W mem word buffer in
     let es = elements_for m (decode_of word) in
-    let d = ((storing-decided f m W mem word buffer (Refused (Overlap e a)) mem' buffer' c).0 12 (λ q. omega (arith, q))).0 refl in
+    let d = ((storing-decided f m W mem word buffer (Err (Overlap e a)) mem' buffer' c).0 12 (λ q. omega (arith, q))).0 refl in
     go f.strict (first_overlap es) refl (ltb (length buffer) (length (patch_of es)))
     (c.answer ∙ before-decided 12 rs _ (decides-before 12 rs d))
   where
     go : (b : Bool) (o : Option Element) → first_overlap (elements_for m (decode_of word)) ≡ o → (t : Bool)
-        → Refused (Overlap e a)
-        ≡ cond (b && found o) (Refused (overlap_of o))
-        (cond t (Refused NoRoom) (done_of (elements_for m (decode_of word)) (size_for (decode_of word))))
+        → Err (Overlap e a)
+        ≡ cond (b && found o) (Err (overlap_of o))
+        (cond t (Err NoRoom) (done_of (elements_for m (decode_of word)) (size_for (decode_of word))))
         → Names e a (elements_for m (decode_of word))
     go true (some x) q t p = record { element = x; first = q; number = cc; address = cc }
     go true none q true p = absurdly cc
@@ -145,7 +144,7 @@ overlap-names-the-lowest f m W mem word buffer e a mem' buffer' s c k =
     let el = element_at m s in
     let t = names f m W mem word buffer e a mem' buffer' c in
     let q : overlap_from [] (elements m s) ≡ some t.element =
-    sym (ap (λ (d : Decoded). first_overlap (elements_for m d)) k) ∙ t.first in
+    sym (ap (λ (d : P.Option Store). first_overlap (elements_for m d)) k) ∙ t.first in
     let l = first-overlap on el (count_of m s) 0 t.element q in
     let i : l.among.at ≡ e = sym (t.number ∙ ap (λ (x : Element). x.number) l.among.is) in
     let x : t.element ≡ el e = l.among.is ∙ ap el i in
@@ -172,7 +171,7 @@ none_found true (some x) e t = absurdly cc
 none_found false o e t = absurdly cc
 
 each_once : (f : Flags) (m : Machine) (W L word : ℕ) (s : Store) → NoneDue f m W L word → f.strict ≡ true
-    → decode_of word ≡ D.Known s → TwoActiveShare m s → ⊥
+    → decode_of word ≡ Some s → TwoActiveShare m s → ⊥
 each_once f m W L word s due t k h =
     let es = elements_for m (decode_of word) in
     not-both (overlap f es)
@@ -198,27 +197,27 @@ once f m W L word due t =
     let x = u.store in
     let n : first_overlap es ≡ none = none_found f.strict (first_overlap es) (none-overlaps f m W L word due) t in
     let q : es ≡ elements m x = ap (elements_for m) u.decoded in
-    let some = (small_at (row_for x) (accepted x u.accepted).0).size.0 in
+    let positive = (small_at (row_for x) (accepted x u.accepted).0).size.0 in
     let s : Full (size_of (class_for x)) (elements m x) =
     full (active_at m x) (element_at m x) (size_of (class_for x)) (count_of m x) 0
     (λ i h. (element-of m x i u.buffers u.accepted (omega arith)).0) in
     ap (λ (l : List Element). length (net_effect l)) q
     ∙ length-once (size_of (class_for x)) (elements m x) s
-    (no-overlap-apart (size_of (class_for x)) some (elements m x) s (sym (ap (λ (l : List Element). first_overlap l) q) ∙ n))
-    ∙ sym (ap (λ (d : Decoded). length (elements_for m d) * size_for d) u.decoded)
+    (no-overlap-apart (size_of (class_for x)) positive (elements m x) s (sym (ap (λ (l : List Element). first_overlap l) q) ∙ n))
+    ∙ sym (ap (λ (d : P.Option Store). length (elements_for m d) * size_for d) u.decoded)
 
 payload : (f : Flags) (m : Machine) (W : ℕ) (mem : List ℕ) (word : ℕ) (buffer : List ℕ) (n b k t : ℕ) (mem' buffer' : List ℕ)
-    → Stored f m W mem word buffer (Done n b k t) mem' buffer' → f.strict ≡ true → b ≡ length (effect_for m word)
+    → Stored f m W mem word buffer (done n b k t) mem' buffer' → f.strict ≡ true → b ≡ length (effect_for m word)
 payload f m W mem word buffer n b k t mem' buffer' c on =
-    let d = is-done f m W mem word buffer (Done n b k t) mem' buffer' c refl in
-    let q : Done n b k t ≡ done_of (elements_for m (decode_of word)) (size_for (decode_of word)) = d.answer in
-    let e : b ≡ length (elements_for m (decode_of word)) * size_for (decode_of word) = cc in
+    let d = is-done f m W mem word buffer (done n b k t) mem' buffer' c refl in
+    let q : done n b k t ≡ done_of (elements_for m (decode_of word)) (size_for (decode_of word)) = d.answer in
+    let e : b ≡ length (elements_for m (decode_of word)) * size_for (decode_of word) = (done-same q).1 in
     e ∙ sym (once f m W (length mem) word d.none_due on)
 
 -- ---- strided stores
 
 strided_never : (f : Flags) (m : Machine) (W : ℕ) (mem : List ℕ) (word : ℕ) (buffer : List ℕ) (v : Verdict) (mem' buffer' : List ℕ)
-    (g : StridedFields) → Stored f m W mem word buffer v mem' buffer' → decode_of word ≡ D.Known (Strided g) → number v ≡ 12 → ⊥
+    (g : StridedFields) → Stored f m W mem word buffer v mem' buffer' → decode_of word ≡ Some (Strided g) → number v ≡ 12 → ⊥
 strided_never f m W mem word buffer v mem' buffer' g c k e =
     let rs = table_for f m W mem word buffer in
     let d = ((storing-decided f m W mem word buffer v mem' buffer' c).0 12 (λ q. omega (arith, q))).0 e in
@@ -231,7 +230,7 @@ strided_never f m W mem word buffer v mem' buffer' g c k e =
     ((table-given-when f m W (length mem) (decode_of word) (length buffer)).overlap.0 (decides-given 12 rs d)) in
     let x = both f.strict (found (first_overlap (elements_for m (decode_of word)))) w in
     not-both (found (first_overlap (elements_for m (decode_of word)))) x.1
-    (ap found (ap (λ (y : Decoded). first_overlap (elements_for m y)) k ∙ n))
+    (ap found (ap (λ (y : P.Option Store). first_overlap (elements_for m y)) k ∙ n))
 
 -- ---- the flag off
 
@@ -257,17 +256,17 @@ illegal-same f SVE = refl
 illegal-same f SME2 = refl
 illegal-same f SVE2p1 = refl
 
-lines_same : (f : Flags) (m : Machine) (W L : ℕ) (d : Decoded) (room : ℕ)
+lines_same : (f : Flags) (m : Machine) (W L : ℕ) (d : P.Option Store) (room : ℕ)
     → without 12 (table f m W L d room) ≡ without 12 (table (lenient f) m W L d room)
-lines_same f m W L D.Undefined room = refl
-lines_same f m W L (D.Known s) room =
+lines_same f m W L None room = refl
+lines_same f m W L (Some s) room =
     λ i.
     row 1 (not (length_ok f.early f.streaming m.vb)) Length
     ∷ row 2 (not (registers_ok m)) Registers
     ∷ row 3 (not (window_ok W L)) Window
     ∷ row 4 (not (flag_same f (feature_of s) i)) Undefined
     ∷ row 5 (illegal-same f (feature_of s) i) Illegal
-    ∷ from 6 (without 12 (table f m W L (D.Known s) room))
+    ∷ from 6 (without 12 (table f m W L (Some s) room))
 
 -- a verdict that isn't 12 is the one with the flag off
 otherwise : (f : Flags) (m : Machine) (W : ℕ) (mem : List ℕ) (word : ℕ) (buffer : List ℕ)

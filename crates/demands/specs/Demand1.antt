@@ -2,13 +2,11 @@
 -- in proofs/Demand1.antt. Assumes nothing.
 use Rattle.std.specs.Prelude.{ℕ, ◌≤◌, List, ◌⊎◌, ◌≡◌}
 use Rattle.elements.specs.Machine.{Machine}
-use Rattle.verdicts.specs.Verdicts.{number}
+use Rattle.verdicts.specs.Verdicts.{number, Verdict}
 use Rattle.verdicts.specs.declared.Flags.{Flags}
-use Rattle.verdicts.specs.declared.Verdict.{Verdict}
 use Rattle.outcomes.specs.Storing.{Stored}
 use Rattle.patch.specs.Answers.{applied_number}
-use Rattle.patch.specs.Applying.{AppliedTo}
-use Rattle.patch.specs.declared.Applied.{Applied}
+use Rattle.patch.specs.Applying.{Applied, AppliedTo}
 
 -- an answer and a buffer's content at exit meet the predicate, and no others do
 pub record ExactlyOne {A : Type 0} (P : A → List ℕ → Type 0) : Type 0 where

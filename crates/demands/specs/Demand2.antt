@@ -1,5 +1,6 @@
 -- Demand 2 as one statement. Its proof is `demand2` in proofs/Demand2.antt. Assumes nothing.
-use Rattle.std.specs.Prelude.{ℕ, suc, ◌+◌, ◌*◌, ◌%◌, ◌^◌, ◌≤◌, ◌<◌, Bool, true, false, List, [], ◌∷◌, ◌++◌, ◌↔◌, ◌⊎◌, ◌≡◌, length, get_or, replicate}
+use Rattle.std.specs.Prelude.{ℕ, suc, ◌+◌, ◌*◌, ◌%◌, ◌^◌, ◌≤◌, ◌<◌, Bool, true, false, List, [], ◌∷◌, ◌++◌, ◌↔◌, ◌⊎◌, ◌≡◌}
+use Rattle.std.specs.Prelude.{length, get_or, replicate, Some, None, Ok, Err}
 use Rattle.std.proofs.Math.Option
 use Rattle.encoding.specs.Answers.{decoded_numbers}
 use Rattle.encoding.specs.Classes.{classes}
@@ -7,8 +8,6 @@ use Rattle.encoding.specs.Decoding.{decode_of}
 use Rattle.encoding.specs.Encoding.{class_for}
 use Rattle.encoding.specs.Statements.{DecodesItsClass, UndefinedOutside, OneClass, ScatterWidths, StridedWidths}
 use Rattle.encoding.specs.Statements.{EncodesDecoded, DecodesEncoded, RefusedForACause, NumbersFromBits}
-use Rattle.encoding.specs.declared.Decoded.TheVariants as D
-use Rattle.encoding.specs.declared.Encoded.TheVariants as E
 use Rattle.encoding.specs.declared.Store.{Store}
 use Rattle.codec.specs.Codec.{encoded_answers}
 use Rattle.codec.specs.Statements.{EncodesDecodedNumbers, DecodesEncodedNumbers, RefusesNumbers}
@@ -20,19 +19,17 @@ use Rattle.window.specs.Window.{window_ok, in_window}
 use Rattle.elements.specs.Machine.{Machine}
 use Rattle.elements.specs.Stores.{size_of, count_of, register_in, index_in}
 use Rattle.elements.specs.Elements.{active_at, element_at, elements}
-use Rattle.verdicts.specs.Verdicts.{elements_for, patch_of, length_ok, registers_ok, Row, table, number}
+use Rattle.verdicts.specs.Verdicts.{elements_for, patch_of, length_ok, registers_ok, Row, table, number, Verdict, done}
 use Rattle.verdicts.specs.Statements.{NoneGiven, Decides, before, TableNumbered, TableInOrder, TableGivenWhen, Listed, Writes}
 use Rattle.verdicts.specs.declared.Flags.{Flags}
 use Rattle.verdicts.specs.declared.Refusal.TheVariants.{Fault, Overlap}
-use Rattle.verdicts.specs.declared.Verdict.{Verdict}
-use Rattle.verdicts.specs.declared.Verdict.TheVariants.{Done, Refused}
 use Rattle.outcomes.specs.Storing.{Stored, numbers}
 use Rattle.patch.specs.Answers.{applied_number, applied_numbers, judged_number, judged_numbers}
-use Rattle.patch.specs.Applying.{AppliedTo}
+use Rattle.patch.specs.Applying.{Applied, AppliedTo}
 use Rattle.patch.specs.Statements.{Encodes}
-use Rattle.patch.specs.declared.Applied.{Applied}
-use Rattle.patch.specs.declared.Applied.TheVariants as A
-use Rattle.patch.specs.declared.Judged.TheVariants as J
+use Rattle.patch.specs.declared.Size.{Size}
+use Rattle.patch.specs.declared.NoPatch.{NoPatch}
+use Rattle.patch.specs.declared.ApplyError.TheVariants as A
 
 -- ---- a done store's elements
 
@@ -54,7 +51,7 @@ InAscendingOrder = (m : Machine) (s : Store) → Rising 0 (elements m s)
 abbrev pub ElementBytes : Type 0
 ElementBytes =
     (f : Flags) (m : Machine) (word : ℕ) (s : Store) (e : ℕ) → length_ok f.early f.streaming m.vb ≡ true → registers_ok m ≡ true
-    → decode_of word ≡ D.Known s
+    → decode_of word ≡ Some s
     → e < count_of m s
     → (length (element_at m s e).bytes ≡ size_of (class_for s))
     × ((k : ℕ) → k < size_of (class_for s)
@@ -64,7 +61,7 @@ ElementBytes =
 abbrev pub ByteByByte : Type 0
 ByteByByte =
     (f : Flags) (m : Machine) (W : ℕ) (mem : List ℕ) (word : ℕ) (buffer : List ℕ) (n b k t : ℕ) (mem' buffer' : List ℕ)
-    → Stored f m W mem word buffer (Done n b k t) mem' buffer'
+    → Stored f m W mem word buffer (done n b k t) mem' buffer'
     → (length mem' ≡ length mem)
     × ((i : ℕ) → i < length mem → get_or mem' i 0 ≡ Option.get_or (last_at (W + i) (elements_for m (decode_of word))) (get_or mem i 0))
 
@@ -72,7 +69,7 @@ ByteByByte =
 abbrev pub CountsOfDone : Type 0
 CountsOfDone =
     (f : Flags) (m : Machine) (W : ℕ) (mem : List ℕ) (word : ℕ) (buffer : List ℕ) (n b k t : ℕ) (mem' buffer' : List ℕ) (s : Store)
-    → Stored f m W mem word buffer (Done n b k t) mem' buffer' → decode_of word ≡ D.Known s
+    → Stored f m W mem word buffer (done n b k t) mem' buffer' → decode_of word ≡ Some s
     → (n ≡ length (elements m s)) × (b ≡ length (elements m s) * size_of (class_for s)) × (k ≡ length (patch_of (elements m s)))
     × (t ≡ steps_of (elements m s))
 
@@ -121,7 +118,7 @@ OverlapGiven =
     → (number v ≡ 12)
     ↔ (NoneGiven (before 12 (table_for f m W mem word buffer))
     × (f.strict ≡ true)
-    × ((s : Store) × (decode_of word ≡ D.Known s) × TwoActiveShare m s))
+    × ((s : Store) × (decode_of word ≡ Some s) × TwoActiveShare m s))
 
 -- "a run isn't wholly in the window"
 abbrev pub SomeRunOutside : ℕ → ℕ → List Run → Type 0
@@ -148,7 +145,7 @@ lies_in W L m s e = in_window W L (element_at m s e).address (length (element_at
 abbrev pub FaultNamesTheLowest : Type 0
 FaultNamesTheLowest =
     (f : Flags) (m : Machine) (W : ℕ) (mem : List ℕ) (word : ℕ) (buffer : List ℕ) (e a : ℕ) (mem' buffer' : List ℕ) (s : Store)
-    → Stored f m W mem word buffer (Refused (Fault e a)) mem' buffer' → decode_of word ≡ D.Known s
+    → Stored f m W mem word buffer (Err (Fault e a)) mem' buffer' → decode_of word ≡ Some s
     → (e < count_of m s)
     × (active_at m s e ≡ true)
     × ((k : ℕ)
@@ -163,7 +160,7 @@ FaultNamesTheLowest =
 abbrev pub OverlapNamesTheLowest : Type 0
 OverlapNamesTheLowest =
     (f : Flags) (m : Machine) (W : ℕ) (mem : List ℕ) (word : ℕ) (buffer : List ℕ) (e a : ℕ) (mem' buffer' : List ℕ) (s : Store)
-    → Stored f m W mem word buffer (Refused (Overlap e a)) mem' buffer' → decode_of word ≡ D.Known s
+    → Stored f m W mem word buffer (Err (Overlap e a)) mem' buffer' → decode_of word ≡ Some s
     → (e < count_of m s)
     × (active_at m s e ≡ true)
     × (a ≡ (element_at m s e).address)
@@ -174,7 +171,7 @@ OverlapNamesTheLowest =
 abbrev pub OutsideNamesTheLowest : Type 0
 OutsideNamesTheLowest =
     (W : ℕ) (mem s : List ℕ) (k a : ℕ) (mem' : List ℕ) (S : List ByteWrite)
-    → AppliedTo W mem s (A.Outside k a) mem' → PatchOf S s
+    → AppliedTo W mem s (Err (A.Outside k a)) mem' → PatchOf S s
     → (before : List Run)
     × (p : List ℕ)
     × (after : List Run)
@@ -186,27 +183,27 @@ OutsideNamesTheLowest =
 -- the six numbers: "Done [..] has zeros as its detail; a refusal's counts and lengths are 0."; zeros for all refusals but 7 and 12
 abbrev pub StoringReturns : Type 0
 StoringReturns =
-    ((n b k t : ℕ) → numbers (Done n b k t) ≡ 0 ∷ 0 ∷ n ∷ b ∷ k ∷ t ∷ [])
-    × ((e a : ℕ) → numbers (Refused (Fault e a)) ≡ e ∷ a ∷ 0 ∷ 0 ∷ 0 ∷ 0 ∷ [])
-    × ((e a : ℕ) → numbers (Refused (Overlap e a)) ≡ e ∷ a ∷ 0 ∷ 0 ∷ 0 ∷ 0 ∷ [])
+    ((n b k t : ℕ) → numbers (done n b k t) ≡ 0 ∷ 0 ∷ n ∷ b ∷ k ∷ t ∷ [])
+    × ((e a : ℕ) → numbers (Err (Fault e a)) ≡ e ∷ a ∷ 0 ∷ 0 ∷ 0 ∷ 0 ∷ [])
+    × ((e a : ℕ) → numbers (Err (Overlap e a)) ≡ e ∷ a ∷ 0 ∷ 0 ∷ 0 ∷ 0 ∷ [])
     × ((v : Verdict) → (number v ≡ 0 → ⊥) → (number v ≡ 7 → ⊥) → (number v ≡ 12 → ⊥) → numbers v ≡ 0 ∷ 0 ∷ 0 ∷ 0 ∷ 0 ∷ 0 ∷ [])
 
 abbrev pub ApplyingReturns : Type 0
 ApplyingReturns =
-    ((k t : ℕ) → applied_numbers (A.Done k t) ≡ 0 ∷ 0 ∷ k ∷ t ∷ 0 ∷ [])
-    × ((k a : ℕ) → applied_numbers (A.Outside k a) ≡ k ∷ a ∷ 0 ∷ 0 ∷ 0 ∷ [])
-    × (applied_numbers A.Window ≡ replicate 5 0)
-    × (applied_numbers A.BadPatch ≡ replicate 5 0)
+    ((z : Size) → applied_numbers (Ok z) ≡ 0 ∷ 0 ∷ z.runs ∷ z.bytes ∷ 0 ∷ [])
+    × ((k a : ℕ) → applied_numbers (Err (A.Outside k a)) ≡ k ∷ a ∷ 0 ∷ 0 ∷ 0 ∷ [])
+    × (applied_numbers (Err A.Window) ≡ replicate 5 0)
+    × (applied_numbers (Err A.BadPatch) ≡ replicate 5 0)
 
 -- judging answers 0 with runs and payload bytes, or 9 with the runs that are acceptable and where they end
 abbrev pub JudgingReturns : Type 0
 JudgingReturns =
-    ((k t : ℕ) → (judged_number (J.Patch k t) ≡ 0) × (judged_numbers (J.Patch k t) ≡ 0 ∷ 0 ∷ k ∷ t ∷ 0 ∷ []))
-    × ((k a : ℕ) → (judged_number (J.NoPatch k a) ≡ 9) × (judged_numbers (J.NoPatch k a) ≡ k ∷ a ∷ 0 ∷ 0 ∷ 0 ∷ []))
+    ((z : Size) → (judged_number (Ok z) ≡ 0) × (judged_numbers (Ok z) ≡ 0 ∷ 0 ∷ z.runs ∷ z.bytes ∷ 0 ∷ []))
+    × ((n : NoPatch) → (judged_number (Err n) ≡ 9) × (judged_numbers (Err n) ≡ n.runs ∷ n.at ∷ 0 ∷ 0 ∷ 0 ∷ []))
 
 -- a word of no class, and fields that are refused
 abbrev pub CodecReturns : Type 0
-CodecReturns = (decoded_numbers D.Undefined ≡ replicate 8 0) × (encoded_answers E.Fields ≡ replicate 5 0)
+CodecReturns = (decoded_numbers None ≡ replicate 8 0) × (encoded_answers None ≡ replicate 5 0)
 
 pub record Demand2 : Type 0 where
   -- "Decoding accepts exactly the twelve classes of document 01", of which document 02 says: "Demand 2 now reads twenty-four classes" (i),

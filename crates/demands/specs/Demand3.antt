@@ -1,6 +1,6 @@
 -- Demand 3 as one statement, over what the calls themselves return and leave: `Stored` and `AppliedTo` are the predicates of the contracts
 -- of `store` and `apply`. Its proof is `demand3` in proofs/Demand3.antt. Assumes nothing.
-use Rattle.std.specs.Prelude.{ℕ, ◌+◌, ◌≤◌, ◌<◌, List, ◌↔◌, ◌≡◌, length, get_or, take, drop}
+use Rattle.std.specs.Prelude.{ℕ, ◌+◌, ◌≤◌, ◌<◌, List, ◌↔◌, ◌≡◌, length, get_or, take, drop, Ok}
 use Rattle.std.proofs.Math.Option
 use Rattle.encoding.specs.Decoding.{decode_of}
 use Rattle.endian.specs.LittleEndian.{Bytes}
@@ -10,17 +10,14 @@ use Rattle.writes.specs.Sets.{ByteWrite, lookup, runs}
 use Rattle.writes.specs.Statements.{EqualLookups, RunsAsDescribed, RunAtEachStart, RunsKeepTheRules, EncodingLength}
 use Rattle.writes.specs.Statements.{LargestPatch, WrittenLast}
 use Rattle.elements.specs.Machine.{Machine}
-use Rattle.verdicts.specs.Verdicts.{elements_for, patch_of, table, number}
+use Rattle.verdicts.specs.Verdicts.{elements_for, patch_of, table, number, Verdict, done}
 use Rattle.verdicts.specs.Statements.{NoneGiven, before}
 use Rattle.verdicts.specs.declared.Flags.{Flags}
-use Rattle.verdicts.specs.declared.Verdict.{Verdict}
-use Rattle.verdicts.specs.declared.Verdict.TheVariants.{Done}
 use Rattle.outcomes.specs.Storing.{Stored}
 use Rattle.patch.specs.Answers.{applied_number}
-use Rattle.patch.specs.Applying.{AppliedTo}
+use Rattle.patch.specs.Applying.{Applied, AppliedTo}
 use Rattle.patch.specs.Statements.{ReadAsPatch, WhateverWindow, JudgesAlike, OneEncoding, NoneShared}
-use Rattle.patch.specs.declared.Applied.{Applied}
-use Rattle.patch.specs.declared.Applied.TheVariants as A
+use Rattle.patch.specs.declared.Size.{Size}
 
 -- ---- a done store
 
@@ -60,7 +57,7 @@ pub record HandsOut (f : Flags) (m : Machine) (W : ℕ) (mem : List ℕ) (word :
   pub steps : ℕ
   pub memory : List ℕ
   pub after : List ℕ
-  pub stored : Stored f m W mem word buffer (Done elements bytes size steps) memory after
+  pub stored : Stored f m W mem word buffer (done elements bytes size steps) memory after
   pub string : s ≡ take size after
 
 -- a call on `mem`, in some buffer with room, leaves mem'
@@ -112,7 +109,7 @@ HasAPatch =
 abbrev pub KeepsBehind : Type 0
 KeepsBehind =
     (f : Flags) (m : Machine) (W : ℕ) (mem : List ℕ) (word : ℕ) (buffer : List ℕ) (n b k t : ℕ) (mem' buffer' : List ℕ)
-    → Stored f m W mem word buffer (Done n b k t) mem' buffer' → drop k buffer' ≡ drop k buffer
+    → Stored f m W mem word buffer (done n b k t) mem' buffer' → drop k buffer' ≡ drop k buffer
 
 -- on whatever fillings and in whatever buffers the two strings are handed out
 abbrev pub SamePatches : Type 0
@@ -135,12 +132,12 @@ AppliesAsItStores =
 -- returns its runs and payload bytes"
 abbrev pub LaysTheSet : Type 0
 LaysTheSet =
-    (W : ℕ) (mem s : List ℕ) (k t : ℕ) (mem' : List ℕ) (S : List ByteWrite)
-    → AppliedTo W mem s (A.Done k t) mem' → PatchOf S s
+    (W : ℕ) (mem s : List ℕ) (z : Size) (mem' : List ℕ) (S : List ByteWrite)
+    → AppliedTo W mem s (Ok z) mem' → PatchOf S s
     → (length mem' ≡ length mem)
     × ((i : ℕ) → i < length mem → get_or mem' i 0 ≡ Option.get_or (lookup (W + i) S) (get_or mem i 0))
-    × (k ≡ length (runs S))
-    × (t ≡ length S)
+    × (z.runs ≡ length (runs S))
+    × (z.bytes ≡ length S)
 
 pub record Demand3 : Type 0 where
   -- "A store is done when no refusal that stands before 8 is due; running it then answers done, and making its patch is done in every

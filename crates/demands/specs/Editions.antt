@@ -1,19 +1,17 @@
 -- Document 02 (vi): "Add an edition to the machine: under the early edition VB may be any multiple of 16 from 16 to 256, under the late
 -- one the five of document 01. With streaming on, the five hold under both. Verdict 1 is amended accordingly and keeps its place. Demand 3
 -- spans two stores of different editions." The edition is a field of the flags, over which each field of demand 3 ranges. Assumes nothing.
-use Rattle.std.specs.Prelude.{ℕ, ◌*◌, ◌≤◌, true, false, List, ◌↔◌, ◌≡◌}
+use Rattle.std.specs.Prelude.{ℕ, ◌*◌, ◌≤◌, true, false, List, ◌↔◌, ◌≡◌, Some}
 use Rattle.encoding.specs.Decoding.{decode_of}
 use Rattle.encoding.specs.Encoding.{class_for}
-use Rattle.encoding.specs.declared.Decoded.TheVariants as D
 use Rattle.encoding.specs.declared.Store.{Store}
 use Rattle.encoding.specs.declared.Store.TheVariants.{Strided}
 use Rattle.encoding.specs.declared.StridedFields.{StridedFields}
 use Rattle.elements.specs.Machine.{Machine}
 use Rattle.elements.specs.Stores.{step_of, per_register}
-use Rattle.verdicts.specs.Verdicts.{number}
+use Rattle.verdicts.specs.Verdicts.{number, Verdict}
 use Rattle.verdicts.specs.Statements.{OneOfFive, AnyMultiple}
 use Rattle.verdicts.specs.declared.Flags.{Flags}
-use Rattle.verdicts.specs.declared.Verdict.{Verdict}
 use Rattle.outcomes.specs.Storing.{Stored}
 
 -- a call of the merged call, and what it answers
@@ -44,7 +42,7 @@ pub record BothRules : Type 0 where
   -- at a VB that is none of the five every strided word is refused with one of 1 to 5, which look at no counter: so nothing depends on how
   -- log2(4·VB) of document 02 (iii) is rounded there
   pub strided_refused : (f : Flags) (m : Machine) (word : ℕ) (v : Verdict) (g : StridedFields) → Answered f m word v
-      → decode_of word ≡ D.Known (Strided g) → (OneOfFive m.vb → ⊥) → (1 ≤ number v) × (number v ≤ 5)
+      → decode_of word ≡ Some (Strided g) → (OneOfFive m.vb → ⊥) → (1 ≤ number v) × (number v ≤ 5)
   -- "Elements are VB·8/esize in number" (document 01): at each multiple they fill their register
-  pub fill : (m : Machine) (word : ℕ) (s : Store) → decode_of word ≡ D.Known s → AnyMultiple m.vb
+  pub fill : (m : Machine) (word : ℕ) (s : Store) → decode_of word ≡ Some s → AnyMultiple m.vb
       → per_register m (class_for s) * step_of (class_for s) ≡ m.vb

@@ -1,9 +1,8 @@
 -- Document 02 (iv): "make that inner step take a stretch at once: active elements, each starting where the active one before it ends. The
 -- steps are counted for a test, and proved to be as many as the active elements that don't start so: one for a whole register that is
 -- contiguous and active." That a done store answers `steps_of` its elements says `CountsOfDone` of demand 2. Assumes nothing.
-use Rattle.std.specs.Prelude.{ℕ, suc, ◌+◌, ◌≤◌, ◌<◌, true, false, ◌≡◌, length}
+use Rattle.std.specs.Prelude.{ℕ, suc, ◌+◌, ◌≤◌, ◌<◌, true, false, ◌≡◌, length, Some}
 use Rattle.encoding.specs.Decoding.{decode_of}
-use Rattle.encoding.specs.declared.Decoded.TheVariants as D
 use Rattle.encoding.specs.declared.Store.{Store}
 use Rattle.writes.specs.Sets.{runs}
 use Rattle.writes.specs.Elements.{net_effect, steps_of}
@@ -27,5 +26,5 @@ pub record StepsCounted : Type 0 where
   -- no more than active elements
   pub most : (m : Machine) (s : Store) → steps_of (elements m s) ≤ length (elements m s)
   -- and the patch has no more runs than steps were taken
-  pub runs : (f : Flags) (m : Machine) (W L word : ℕ) (s : Store) → DoneOver f m W L word → decode_of word ≡ D.Known s
+  pub runs : (f : Flags) (m : Machine) (W L word : ℕ) (s : Store) → DoneOver f m W L word → decode_of word ≡ Some s
       → length (runs (net_effect (elements m s))) ≤ steps_of (elements m s)

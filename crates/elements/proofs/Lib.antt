@@ -1,5 +1,4 @@
 pub mod Leaves
 pub mod Highest
 pub mod Shapes
-pub mod Bits
 pub mod Numbers

@@ -1,6 +1,6 @@
 -- What the classes of each feature are like, computed over the table, and what a store that isn't refused has in its fields.
 -- Assumes nothing.
-use Rattle.std.proofs.Common.{◌≡◌, ℕ, ◌*◌, ◌/◌, ◌%◌, ◌^◌, ◌<◌, ◌≤◌, Bool, true, false, cond, not, ◌||◌, T, eqb, ltb, leb, ◌⊎◌, List, [], ◌∷◌, length, get_or, nat_abs, refl, subst, inl, inr, arith, lit<, eqb→eq, ltb→lt, leb→le, eqb-true}
+use Rattle.std.proofs.Common.{◌≡◌, ℕ, ◌*◌, ◌/◌, ◌%◌, ◌^◌, ◌<◌, ◌≤◌, Bool, true, false, cond, not, ◌||◌, T, eqb, ltb, leb, ◌⊎◌, List, [], ◌∷◌, length, get_or, nat_abs, refl, subst, inl, inr, arith, lit<, eqb→eq, ltb→lt, leb→le, eqb-true, Option, Some, None}
 use native.Mathlib.Nat.{one-le-pow}
 use Rattle.encoding.specs.Classes as C
 use Rattle.encoding.specs.Classes.{Zm, imm4, xs, Field, size, Class, classes, class_at, no_class, any, has, width}
@@ -9,7 +9,7 @@ use Rattle.encoding.specs.declared.Feature.TheVariants.{SVE, SME2, SVE2p1}
 use Rattle.encoding.specs.Decoding.{zt_of}
 use Rattle.encoding.specs.Encoding.{Value, ◌is◌, lowest, numbers_in, imm_of, row_for, class_for, refused, misextends}
 use Rattle.encoding.specs.declared.Extension.{Extension}
-use Rattle.encoding.specs.declared.Extension.TheVariants.{None, Uxtw, Sxtw}
+use Rattle.encoding.specs.declared.Extension.TheVariants.{Uxtw, Sxtw}
 use Rattle.encoding.specs.declared.ScatterFields.{ScatterFields}
 use Rattle.encoding.specs.declared.StridedFields.{StridedFields}
 use Rattle.encoding.specs.declared.QuadwordFields.{QuadwordFields}
@@ -83,13 +83,13 @@ number_in c s t i h =
     (every-at (λ v. ltb v.number (2 ^ width c v.field)) (numbers_in s) (Zm is 0) (in-range c s t) i h))
 
 -- an offset's bytes lie in its element
-fits-step : (h : Bool) (e : Extension) (n : ℕ) → T (not (misextends h e)) → 4 ≤ n → T (h || eqb n 8) → offset_bytes e ≤ n
+fits-step : (h : Bool) (e : Option Extension) (n : ℕ) → T (not (misextends h e)) → 4 ≤ n → T (h || eqb n 8) → offset_bytes e ≤ n
 fits-step true None n t l u = absurd t
-fits-step true Uxtw n t l u = l
-fits-step true Sxtw n t l u = l
+fits-step true (Some Uxtw) n t l u = l
+fits-step true (Some Sxtw) n t l u = l
 fits-step false None n t l u = let q = eqb→eq n 8 u in omega arith
-fits-step false Uxtw n t l u = absurd t
-fits-step false Sxtw n t l u = absurd t
+fits-step false (Some Uxtw) n t l u = absurd t
+fits-step false (Some Sxtw) n t l u = absurd t
 
 -- 8 or 4
 four-step : (n : ℕ) → (n ≡ 8) ⊎ (n ≡ 4) → 4 ≤ n
@@ -104,10 +104,10 @@ either_step n t = go (eqb n 8) refl t
     go false e u = inr (eqb→eq n 4 u)
 
 -- by the extension
-step_by : (x : Extension) (n : ℕ) → (x ≡ None → n ≡ 8) → (n ≡ 8) ⊎ (n ≡ 4) → (n ≡ 8) ⊎ (n ≡ other_step x)
+step_by : (x : Option Extension) (n : ℕ) → (x ≡ None → n ≡ 8) → (n ≡ 8) ⊎ (n ≡ 4) → (n ≡ 8) ⊎ (n ≡ other_step x)
 step_by None n f s = inl (f refl)
-step_by Uxtw n f s = s
-step_by Sxtw n f s = s
+step_by (Some Uxtw) n f s = s
+step_by (Some Sxtw) n f s = s
 
 whole-step : (h : Bool) (n : ℕ) → T (not (misextends h None)) → T (h || eqb n 8) → n ≡ 8
 whole-step true n t u = absurd t
@@ -140,7 +140,7 @@ scatter-in f r₀ =
     let e = either_step (step_of c) (t 2 (lit< tt)) in
     let l = four-step (step_of c) e in
     let w : f.extension ≡ None → step_of c ≡ 8 =
-    λ q. whole-step (has c xs) (step_of c) (subst (λ (y : Extension). T (not (misextends (has c xs) y))) q x) (t 3 (lit< tt)) in
+    λ q. whole-step (has c xs) (step_of c) (subst (λ (y : Option Extension). T (not (misextends (has c xs) y))) q x) (t 3 (lit< tt)) in
     record {
       zm = r 0 (lit< tt);
       pg = r 1 (lit< tt);

@@ -1,9 +1,9 @@
 -- A store's numbers, decided once before its elements are walked. For the contracts of the code's own functions. Assumes nothing.
-use Rattle.std.specs.Prelude.{◌≡◌, ℕ, ◌+◌, ◌-◌, ◌*◌, ◌/◌, ◌%◌, ◌^◌, ◌<◌, ◌≤◌, Bool, true, cond, ◌&&◌, ◌||◌, ◌⊎◌, List, take, drop, ◌==◌, nat_le, nat_lt}
+use Rattle.std.specs.Prelude.{◌≡◌, ℕ, ◌+◌, ◌-◌, ◌*◌, ◌/◌, ◌%◌, ◌^◌, ◌<◌, ◌≤◌, Bool, true, cond, ◌&&◌, ◌||◌, ◌⊎◌, List, take, drop, ◌==◌, nat_le, nat_lt, Option, Some, None}
 use Rattle.encoding.specs.Classes.{Class}
 use Rattle.encoding.specs.Layouts.{exponent}
 use Rattle.encoding.specs.declared.Extension.{Extension}
-use Rattle.encoding.specs.declared.Extension.TheVariants.{None, Uxtw, Sxtw}
+use Rattle.encoding.specs.declared.Extension.TheVariants.{Uxtw, Sxtw}
 use Rattle.encoding.specs.declared.ScatterFields.{ScatterFields}
 use Rattle.encoding.specs.declared.StridedFields.{StridedFields}
 use Rattle.encoding.specs.declared.QuadwordFields.{QuadwordFields}
@@ -20,18 +20,18 @@ use Rattle.elements.specs.declared.StridedAccess.{StridedAccess}
 -- ---- scatter and quadword stores: an offset in each element of a vector register
 
 -- the offset whose element starts at byte `at` of its register
-abbrev pub offset_from : Extension → List ℕ → ℕ → ℕ
+abbrev pub offset_from : Option Extension → List ℕ → ℕ → ℕ
 offset_from None reg at = le_val (take 8 (drop at reg))
-offset_from Uxtw reg at = le_val (take 4 (drop at reg))
-offset_from Sxtw reg at = signed32 (le_val (take 4 (drop at reg)))
+offset_from (Some Uxtw) reg at = le_val (take 4 (drop at reg))
+offset_from (Some Sxtw) reg at = signed32 (le_val (take 4 (drop at reg)))
 
-abbrev pub offset_bytes : Extension → ℕ
+abbrev pub offset_bytes : Option Extension → ℕ
 offset_bytes None = 8
-offset_bytes Uxtw = 4
-offset_bytes Sxtw = 4
+offset_bytes (Some Uxtw) = 4
+offset_bytes (Some Sxtw) = 4
 
 -- the address by that offset
-abbrev pub address_from : ℕ → Extension → ℕ → List ℕ → ℕ → ℕ
+abbrev pub address_from : ℕ → Option Extension → ℕ → List ℕ → ℕ → ℕ
 address_from base x scale offsets at = (base + offset_from x offsets at * 2 ^ scale) % 2 ^ 64
 
 unfoldable pub vector_address : VectorAccess → List ℕ → ℕ → ℕ
@@ -155,10 +155,10 @@ unfoldable pub strided_elements : StridedAccess → ℕ → List ℕ → List El
 strided_elements s vb z = actives (between s) (strided_element s vb z) (s.nreg * s.per) 0
 
 -- an offset's element has 8 bytes, or else 16 where the offset is the whole element, and 4 where it is extended
-abbrev pub other_step : Extension → ℕ
+abbrev pub other_step : Option Extension → ℕ
 other_step None = 16
-other_step Uxtw = 4
-other_step Sxtw = 4
+other_step (Some Uxtw) = 4
+other_step (Some Sxtw) = 4
 
 -- how many bytes an element can have in memory
 abbrev pub is_width : ℕ → Bool

@@ -1,5 +1,6 @@
 -- Document 01, 'The machine lent to the model': its registers. Assumes nothing.
 use Rattle.std.specs.Prelude.{ℕ, ◌*◌, ◌/◌, ◌%◌, ◌^◌, Bool, cond, List, take, drop, ◌==◌, slice_index}
+use Rattle.elements.specs.declared.machine.Machine as Rust
 
 -- VB in bytes, "31 general registers and SP, 64 bits each", the Z buffer and the P buffer
 pub record Machine : Type 0 where
@@ -11,6 +12,10 @@ pub record Machine : Type 0 where
 
 abbrev pub machine : ℕ → List ℕ → ℕ → List ℕ → List ℕ → Machine
 machine vb x sp z p = record { vb = vb; x = x; sp = sp; z = z; p = p }
+
+-- the one that is lent
+abbrev pub lent : Rust.Machine → Machine
+lent m = machine m.vb m.x.now m.sp m.z.now m.p.now
 
 -- "Register number 31 is SP as Rn, and zero as Rm."
 abbrev pub base_of : Machine → ℕ → ℕ

@@ -1,12 +1,12 @@
 -- What a decoded store's elements are on a machine: document 01, 'Steps of one store'. Element e's data, address and activity.
 -- Assumes nothing.
-use Rattle.std.specs.Prelude.{ℕ, ◌+◌, ◌-◌, ◌*◌, ◌/◌, ◌%◌, ◌^◌, Bool, cond, List, take, drop, ℤ, pos, ◌*ℤ◌, ◌==◌, nat_lt}
+use Rattle.std.specs.Prelude.{ℕ, ◌+◌, ◌-◌, ◌*◌, ◌/◌, ◌%◌, ◌^◌, Bool, cond, List, take, drop, ℤ, pos, ◌*ℤ◌, ◌==◌, nat_lt, Option, Some, None}
 use Rattle.std.specs.Int.{w64}
 use Rattle.std.proofs.Common.{of_z}
 use Rattle.encoding.specs.Classes.{Rm, Class, has}
 use Rattle.encoding.specs.Encoding.{class_for}
 use Rattle.encoding.specs.declared.Extension.{Extension}
-use Rattle.encoding.specs.declared.Extension.TheVariants.{None, Uxtw, Sxtw}
+use Rattle.encoding.specs.declared.Extension.TheVariants.{Uxtw, Sxtw}
 use Rattle.encoding.specs.declared.Store.{Store}
 use Rattle.encoding.specs.declared.Store.TheVariants.{Scatter, Strided, Quadword}
 use Rattle.endian.specs.LittleEndian.{le_val}
@@ -43,10 +43,10 @@ active_in m c (Quadword f) e = bit_at (predicate m f.pg) (e * step_of c)
 abbrev pub signed32 : ℕ → ℕ
 signed32 v = cond (nat_lt v (2 ^ 31)) v (v + (2 ^ 64 - 2 ^ 32))
 
-abbrev pub offset_of : Extension → ℕ → ℕ
+abbrev pub offset_of : Option Extension → ℕ → ℕ
 offset_of None v = v
-offset_of Uxtw v = v % 2 ^ 32
-offset_of Sxtw v = signed32 (v % 2 ^ 32)
+offset_of (Some Uxtw) v = v % 2 ^ 32
+offset_of (Some Sxtw) v = signed32 (v % 2 ^ 32)
 
 -- element e of a register, as a number
 abbrev pub element_in : List ℕ → ℕ → ℕ → ℕ

@@ -2,6 +2,8 @@
 // access; they are then read by number.
 #![tactic(auto)]
 
+mod machine;
+
 ghost use Rattle.std.specs.Prelude.{◌≡◌, ◌+◌, ◌-◌, ◌*◌, ◌/◌, ◌%◌, ◌^◌, ◌<◌, ◌≤◌, false, [], length, pos, ◌*ℤ◌, if◌then◌else◌, nat_eq, slice_index, unsigned_abs};
 ghost use Rattle.std.specs.Int.{w64};
 ghost use Rattle.std.proofs.Common.{of_z};
@@ -12,15 +14,18 @@ ghost use Rattle.elements.specs.Accesses.{scatter_access, quadword_access, strid
 ghost use Rattle.elements.specs.Accesses.{offset_bytes, offset_from, address_from, vector_address, vector_active};
 ghost use Rattle.elements.specs.Accesses.{strided_active};
 
-use encoding::complement::bits_of;
 use encoding::{Extension, Number, QuadwordFields, ScatterFields, Store, StridedFields};
+pub use machine::Machine;
+
+// That an access is sound (`VectorSound`, `StridedSound`) is asked by those who use it, and no ghost field of it: `scatter_access`,
+// `quadword_access` and `strided_of` in specs/ make an access of any machine and any fields, refused ones too.
 
 // A scatter or quadword store: offset and base of each address, bytes from element to element, bytes to move, the elements' number,
-// and the registers with the offsets, the predicate and the data. The one-byte field comes first, where a refusal's tag lies in
-// `Checked`: eight bytes there would be stored in pieces and read late.
+// and the registers with the offsets, the predicate and the data. The one-byte field comes first, where a refusal's tag lies in what
+// `check` answers: eight bytes there would be stored in pieces and read late.
 #[derive(Clone, Copy)]
 pub struct VectorAccess {
-    pub extension: Extension,
+    pub extension: Option<Extension>,
     pub scale: u32,
     pub base: u64,
     pub step: usize,
@@ -68,8 +73,7 @@ pub fn bit(s: &[u8], i: usize) -> bool
     requires { i / 8 < length s.now }
     ensures { result ≡ bit_at s.now i }
 {
-    let b = endian::wide(s[i / 8]);
-    (b >> (i % 8)) % 2 == 1
+    (s[i / 8] >> (i % 8)) % 2 == 1
 }
 
 // General register n; `last` for number 31.
@@ -77,10 +81,7 @@ pub fn general(x: &[u64; 31], last: u64, n: u8) -> u64
     requires { n < 32 }
     ensures { result ≡ (if nat_eq n 31 then last else slice_index x.now n) }
 {
-    if n == 31 {
-        return last;
-    }
-    x[n as usize]
+    if n == 31 { last } else { x[usize::from(n)] }
 }
 
 // The bytes of register r of a buffer whose registers have n bytes each.
@@ -88,9 +89,7 @@ pub fn register_of(s: &[u8], n: usize, r: usize) -> &[u8]
     requires { r * n + n ≤ length s.now }
     ensures { result.now ≡ register n s.now r }
 {
-    let at = r * n;
-    let end = at + n;
-    &s[at..end]
+    &s[r * n..][..n]
 }
 
 // x * 2^s, modulo 2^64.
@@ -101,80 +100,84 @@ pub fn scaled(x: u64, s: u32) -> u64
     x << s
 }
 
-// A number below 2^32, extended by its sign to 64 bits: 2^31 more modulo 2^32, and 2^31 less modulo 2^64.
+// A number below 2^32, extended by its sign to 64 bits.
 fn extended(x: u64) -> u64
     requires { x < 2 ^ 32 }
     ensures { result ≡ signed32 x }
 {
-    let raised = (x + 0x8000_0000) % 0x1_0000_0000;
-    std::num::wrapping_sub_u64(raised, 0x8000_0000)
+    i64::from((x as u32).cast_signed()).cast_unsigned()
 }
 
 // The offset whose element starts at byte `at` of its register.
-fn offset(extension: Extension, reg: &[u8], at: usize) -> u64
+fn offset(extension: Option<Extension>, reg: &[u8], at: usize) -> u64
     requires { at + offset_bytes extension ≤ length reg.now }
     ensures { result ≡ offset_from extension reg.now at }
 {
     match extension {
-        Extension::None => endian::le64(reg, at),
-        Extension::Uxtw => endian::le32(reg, at),
-        Extension::Sxtw => extended(endian::le32(reg, at)),
+        None => endian::le64(reg, at),
+        Some(Extension::Uxtw) => endian::le32(reg, at),
+        Some(Extension::Sxtw) => extended(endian::le32(reg, at)),
     }
 }
 
 // The address of the element whose offset starts at byte `at` of its register.
-pub fn address_from(base: u64, extension: Extension, scale: u32, offsets: &[u8], at: usize) -> u64
+pub fn address_from(
+    base: u64,
+    extension: Option<Extension>,
+    scale: u32,
+    offsets: &[u8],
+    at: usize,
+) -> u64
     requires extension_in_bounds { at + offset_bytes extension ≤ length offsets.now }
     requires scale_bound { scale < 64 }
     ensures { result ≡ address_from base extension scale offsets.now at }
 {
     let o = offset(extension, offsets, at);
-    std::num::wrapping_add_u64(base, scaled(o, scale))
+    base.wrapping_add(scaled(o, scale))
 }
 
-// The address of element e of a scatter or quadword store.
-pub fn vector_address(v: VectorAccess, offsets: &[u8], e: usize) -> u64
-    requires extension_in_bounds { e * v.step + offset_bytes v.extension ≤ length offsets.now }
-    requires scale_bound { v.scale < 64 }
-    ensures { result ≡ vector_address v offsets.now e }
-{
-    let extension = v.extension;
-    address_from(v.base, extension, v.scale, offsets, e * v.step)
-}
-
-// Whether element e of a scatter or quadword store is active.
-pub fn vector_active(v: VectorAccess, governing: &[u8], e: usize) -> bool
-    requires step_in_bounds { e * v.step / 8 < length governing.now }
-    requires step_bound { e * v.step < 0x10000 }
-    ensures { result ≡ vector_active v governing.now e }
-{
-    bit(governing, e * v.step)
-}
-
-// The lower of two numbers.
-pub fn lower(x: usize, y: usize) -> usize
-    ensures { result ≡ x - (x - y) }
-{
-    if x < y {
-        return x;
+impl VectorAccess {
+    // The address of element e.
+    pub fn address(self, offsets: &[u8], e: usize) -> u64
+        requires extension_in_bounds { e * self.step + offset_bytes self.extension ≤ length offsets.now }
+        requires scale_bound { self.scale < 64 }
+        ensures { result ≡ vector_address self offsets.now e }
+    {
+        address_from(
+            self.base,
+            self.extension,
+            self.scale,
+            offsets,
+            e * self.step,
+        )
     }
-    y
+
+    // Whether element e is active.
+    pub fn is_active(self, governing: &[u8], e: usize) -> bool
+        requires step_in_bounds { e * self.step / 8 < length governing.now }
+        requires step_bound { e * self.step < 0x10000 }
+        ensures { result ≡ vector_active self governing.now e }
+    {
+        bit(governing, e * self.step)
+    }
 }
 
-// Whether the element of a strided store is active whose first byte is the i-th of its registers' bytes.
-pub fn strided_active(s: StridedAccess, i: usize) -> bool
-    requires { 0 < s.gap }
-    ensures { result ≡ strided_active s i }
-{
-    let k = i / s.gap;
-    (i % s.gap == 0) & ((s.low <= k) & (k < s.high))
-}
+impl StridedAccess {
+    // Whether the element is active whose first byte is the i-th of the registers' bytes.
+    pub fn is_active(self, i: usize) -> bool
+        requires { 0 < self.gap }
+        ensures { result ≡ strided_active self i }
+    {
+        let k = i / self.gap;
+        (i % self.gap == 0) & ((self.low <= k) & (k < self.high))
+    }
 
-// The address i bytes behind the first of a strided store.
-pub fn strided_address(s: StridedAccess, i: usize) -> u64
-    ensures { result ≡ (s.start + i) % 2 ^ 64 }
-{
-    std::num::wrapping_add_u64(s.start, i as u64)
+    // The address i bytes behind the first.
+    pub fn address(self, i: usize) -> u64
+        ensures { result ≡ (self.start + i) % 2 ^ 64 }
+    {
+        self.start.wrapping_add(i as u64)
+    }
 }
 
 // base + z * unit, modulo 2^64.
@@ -182,8 +185,7 @@ pub fn displaced(base: u64, z: i64, unit: usize) -> u64
     requires { (unsigned_abs z ≤ 64) × (unit ≤ 256) }
     ensures { result ≡ (base + of_z w64 (z *ℤ pos unit)) % 2 ^ 64 }
 {
-    let d = z * unit as i64;
-    std::num::wrapping_add_u64(base, bits_of(d))
+    base.wrapping_add_signed(z * unit as i64)
 }
 
 pub fn scatter_access(f: ScatterFields, vb: usize, x: &[u64; 31], sp: u64) -> VectorAccess
@@ -202,9 +204,9 @@ pub fn scatter_access(f: ScatterFields, vb: usize, x: &[u64; 31], sp: u64) -> Ve
         step,
         size,
         count: vb / step,
-        offsets: f.zm as usize,
-        governing: f.pg as usize,
-        stored: f.zt as usize,
+        offsets: usize::from(f.zm),
+        governing: usize::from(f.pg),
+        stored: usize::from(f.zt),
     }
 }
 
@@ -217,14 +219,14 @@ pub fn quadword_access(f: QuadwordFields, vb: usize, x: &[u64; 31]) -> VectorAcc
     let size = encoding::number_for(f.class, Number::Size) as usize;
     VectorAccess {
         base,
-        extension: Extension::None,
+        extension: None,
         scale: 0,
         step: quadword,
         size,
         count: vb / quadword,
-        offsets: f.zn as usize,
-        governing: f.pg as usize,
-        stored: f.zt as usize,
+        offsets: usize::from(f.zn),
+        governing: usize::from(f.pg),
+        stored: usize::from(f.zt),
     }
 }
 
@@ -235,21 +237,18 @@ pub fn start_of(f: StridedFields, vb: usize, x: &[u64; 31], sp: u64) -> u64
 {
     let start = general(x, sp, f.rn);
     if encoding::number_for(f.class, Number::RmValues) == 1 {
-        return displaced(start, f.multiple as i64, vb);
+        return displaced(start, i64::from(f.multiple), vb);
     }
     let index = general(x, 0, f.rm);
     let scale = encoding::number_for(f.class, Number::Scale);
-    std::num::wrapping_add_u64(start, scaled(index, scale))
+    start.wrapping_add(scaled(index, scale))
 }
 
 // From one register of a strided store to the next: 8 for two, 4 for four.
 fn stride_of(nreg: u32) -> usize
     ensures { result ≡ (if nat_eq nreg 2 then 8 else 4) }
 {
-    if nreg == 2 {
-        return 8;
-    }
-    4
+    if nreg == 2 { 8 } else { 4 }
 }
 
 // A strided store's access, by its first address and its range. The callers find those two, so that this is little and inlined.
@@ -259,7 +258,6 @@ pub fn strided_access(f: StridedFields, start: u64, range: Range) -> StridedAcce
 {
     let nreg = encoding::number_for(f.class, Number::Nreg);
     let size = encoding::number_for(f.class, Number::Size) as usize;
-    let stride = stride_of(nreg);
     StridedAccess {
         start,
         low: range.low,
@@ -268,7 +266,7 @@ pub fn strided_access(f: StridedFields, start: u64, range: Range) -> StridedAcce
         size,
         per: range.per,
         nreg: nreg as usize,
-        first: f.first as usize,
-        stride,
+        first: usize::from(f.first),
+        stride: stride_of(nreg),
     }
 }

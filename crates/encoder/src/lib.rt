@@ -1,34 +1,29 @@
 // The word that a decoded store is, or verdict 11.
 #![tactic(auto)]
 
-ghost use Rattle.std.specs.Prelude.{◌≡◌, not, ◌&&◌, ◌+◌, ◌*◌, ◌/◌, ◌%◌, ◌<◌, ◌≤◌, ltb};
+ghost use Rattle.std.specs.Prelude.{◌≡◌, not, ◌&&◌, ◌+◌, ◌*◌, ◌/◌, ◌%◌, ◌^◌, ◌<◌, ◌≤◌, ltb};
 ghost use Rattle.encoding.specs.Encoding.{encode_of, imm_of, misextends, xs_of};
 
-use encoding::table::{CLASSES, base_of, layout_of, row_of};
+use encoding::table::row_of;
 use encoding::{
-    Encoded, Extension, Feature, Layout, QuadwordFields, ScatterFields, Store, StridedFields,
-    multiple,
+    Extension, Feature, Layout, QuadwordFields, ScatterFields, Store, StridedFields, multiple,
+    values,
 };
 
 // Whether a class that has an extension, or has none, can have this one.
-fn extends(has: bool, extension: Extension) -> bool
+fn extends(has: bool, extension: Option<Extension>) -> bool
     ensures { result ≡ not (misextends has extension) }
 {
-    match extension {
-        Extension::None => !has,
-        Extension::Uxtw => has,
-        Extension::Sxtw => has,
-    }
+    extension.is_some() == has
 }
 
-fn xs_of(extension: Extension) -> u32
+fn xs_of(extension: Option<Extension>) -> u32
     ensures is { result ≡ xs_of extension }
     ensures bounded { result < 2 }
 {
     match extension {
-        Extension::None => 0,
-        Extension::Uxtw => 0,
-        Extension::Sxtw => 1,
+        None | Some(Extension::Uxtw) => 0,
+        Some(Extension::Sxtw) => 1,
     }
 }
 
@@ -62,32 +57,30 @@ fn scatter_sum(f: ScatterFields, xs: u32) -> u32
     f.zm as u32 * 65536 + xs * 16384 + f.pg as u32 * 1024 + f.rn as u32 * 32 + f.zt as u32
 }
 
-fn encode_scatter(f: ScatterFields) -> Encoded
+fn encode_scatter(f: ScatterFields) -> Option<u32>
     ensures { result ≡ encode_of (Store.Scatter f) }
 {
-    let k = row_of(f.class, Feature::SVE);
-    if CLASSES <= k {
-        return Encoded::Fields;
-    }
-    let layout = layout_of(k);
+    let row = row_of(f.class, Feature::SVE)?;
+    let layout = row.layout;
     let extension = f.extension;
-    if scatter_fits(f) & extends(layout.xs == 2, extension) {
-        Encoded::Word(base_of(k) + scatter_sum(f, xs_of(extension)))
+    if scatter_fits(f) & extends(layout.xs == 1, extension) {
+        Some(row.base + scatter_sum(f, xs_of(extension)))
     } else {
-        Encoded::Fields
+        None
     }
 }
 
 fn strided_fits(f: StridedFields, imm4: u8, layout: Layout) -> bool
-    ensures { result ≡ (ltb f.rm layout.rm && ltb f.pc 8 && ltb f.rn 32
-        && ltb (f.first / 16) 2 && ltb (f.first % 16) layout.zt && ltb imm4 layout.imm4) }
+    requires { (layout.rm < 32) × (layout.imm4 < 32) × (layout.zt < 32) }
+    ensures { result ≡ (ltb f.rm (2 ^ layout.rm) && ltb f.pc 8 && ltb f.rn 32
+        && ltb (f.first / 16) 2 && ltb (f.first % 16) (2 ^ layout.zt) && ltb imm4 (2 ^ layout.imm4)) }
 {
-    ((f.rm as u32) < layout.rm)
+    ((f.rm as u32) < values(layout.rm))
         & (f.pc < 8)
         & (f.rn < 32)
         & (f.first / 16 < 2)
-        & (((f.first % 16) as u32) < layout.zt)
-        & ((imm4 as u32) < layout.imm4)
+        & (((f.first % 16) as u32) < values(layout.zt))
+        & ((imm4 as u32) < values(layout.imm4))
 }
 
 fn strided_sum(f: StridedFields, imm4: u8) -> u32
@@ -101,19 +94,16 @@ fn strided_sum(f: StridedFields, imm4: u8) -> u32
         + f.first as u32
 }
 
-fn encode_strided(f: StridedFields) -> Encoded
+fn encode_strided(f: StridedFields) -> Option<u32>
     ensures { result ≡ encode_of (Store.Strided f) }
 {
-    let k = row_of(f.class, Feature::SME2);
-    if CLASSES <= k {
-        return Encoded::Fields;
-    }
-    let layout = layout_of(k);
-    let imm4 = imm4_of(layout.nreg, layout.imm4, f.multiple as i64);
+    let row = row_of(f.class, Feature::SME2)?;
+    let layout = row.layout;
+    let imm4 = imm4_of(layout.nreg, values(layout.imm4), f.multiple as i64);
     if strided_fits(f, imm4, layout) {
-        Encoded::Word(base_of(k) + strided_sum(f, imm4))
+        Some(row.base + strided_sum(f, imm4))
     } else {
-        Encoded::Fields
+        None
     }
 }
 
@@ -130,22 +120,19 @@ fn quadword_sum(f: QuadwordFields) -> u32
     f.rm as u32 * 65536 + f.pg as u32 * 1024 + f.zn as u32 * 32 + f.zt as u32
 }
 
-fn encode_quadword(f: QuadwordFields) -> Encoded
+fn encode_quadword(f: QuadwordFields) -> Option<u32>
     ensures { result ≡ encode_of (Store.Quadword f) }
 {
-    let k = row_of(f.class, Feature::SVE2p1);
-    if CLASSES <= k {
-        return Encoded::Fields;
-    }
+    let row = row_of(f.class, Feature::SVE2p1)?;
     if quadword_fits(f) {
-        Encoded::Word(base_of(k) + quadword_sum(f))
+        Some(row.base + quadword_sum(f))
     } else {
-        Encoded::Fields
+        None
     }
 }
 
-// The word that a store is, or a refusal of its fields.
-pub fn encode(store: Store) -> Encoded
+// The word that a store is; None, verdict 11, where its fields are refused.
+pub fn encode(store: Store) -> Option<u32>
     ensures { result ≡ encode_of store }
 {
     match store {

@@ -1,5 +1,6 @@
 -- The causes of verdict 11 as one test: each value in its field's range in the class, and an extension where it has one.
 -- Assumes nothing.
+use Rattle.std.specs.Prelude.{Option, Some, None}
 use mathlib.Core.Path.{◌≡◌, refl, sym, ap, ◌∙◌}
 use mathlib.Core.Bool.{Bool, true, false, not, cond, ◌&&◌, ◌||◌}
 use mathlib.Core.List.{List, [], ◌∷◌}
@@ -12,8 +13,6 @@ use Rattle.encoding.specs.Classes.{Class, classes, class_at, any, size, has, wid
 use Rattle.encoding.specs.Encoding.{Value, numbers_in, values_in, placed, row_for, class_for, not_listed, out_of_range, lacked, unnamed}
 use Rattle.encoding.specs.Encoding.{misextended, refused, encode_of}
 use Rattle.encoding.specs.declared.Store.{Store}
-use Rattle.encoding.specs.declared.Encoded.{Encoded}
-use Rattle.encoding.specs.declared.Encoded.TheVariants.{Word, Fields}
 use Rattle.encoding.proofs.Tests.{every, cond-true, fails, told, telling}
 
 -- each value is one that its field has in the class
@@ -88,14 +87,14 @@ causes false o l u m true e f = ap (λ (b : Bool). b || u || m) f ∙ go u m
 causes false o l u m false e f = ap (λ (b : Bool). b || u || m) f
 
 module _ (s : Store) (k : ℕ) (e : k ≡ row_for s) where
-  abbrev answer : Bool → Encoded
-  answer x = cond x Fields (Word ((class_for s).base + placed (values_in (class_for s) s)))
+  abbrev answer : Bool → Option ℕ
+  answer x = cond x None (Some ((class_for s).base + placed (values_in (class_for s) s)))
 
-  pub encode-out : length classes ≤ k → Fields ≡ encode_of s
+  pub encode-out : length classes ≤ k → None ≡ encode_of s
   unfolding encode_of refused
   encode-out h =
       let l : length classes ≤ row_for s = omega arith in
-      sym (cond-true (refused s) Fields _ (first (not_listed s) _ _ _ _ (le→leb (length classes) (row_for s) l)))
+      sym (cond-true (refused s) None _ (first (not_listed s) _ _ _ _ (le→leb (length classes) (row_for s) l)))
     where
       first : (a b c d f : Bool) → T a → T (a || b || c || d || f)
       first true b c d f t = tt
@@ -111,13 +110,13 @@ module _ (s : Store) (k : ℕ) (e : k ≡ row_for s) where
         ∙ ap (λ (j : ℕ). not (fits (class_at j) s)) (sym e)
 
     pub encode-yes : (b : Bool) (w : ℕ) → b ≡ fits (class_at k) s → b ≡ true → w ≡ (class_at k).base + placed (values_in (class_at k) s)
-        → Word w ≡ encode_of s
+        → Some w ≡ encode_of s
     unfolding encode_of
     encode-yes b w f t q =
-        ap Word (q ∙ ap (λ (j : ℕ). (class_at j).base + placed (values_in (class_at j) s)) e)
+        ap Some (q ∙ ap (λ (j : ℕ). (class_at j).base + placed (values_in (class_at j) s)) e)
         ∙ sym (ap answer (refused-is ∙ ap not (sym f ∙ t)))
 
-    pub encode-no : (b : Bool) → b ≡ fits (class_at k) s → b ≡ false → Fields ≡ encode_of s
+    pub encode-no : (b : Bool) → b ≡ fits (class_at k) s → b ≡ false → None ≡ encode_of s
     unfolding encode_of
     encode-no b f t =
         sym (ap answer (refused-is ∙ ap not (sym f ∙ t)))

@@ -1,4 +1,5 @@
 -- A class's stores and the values of their fields determine each other. Assumes nothing.
+use Rattle.std.specs.Prelude.{Option, Some, None, is_none}
 use mathlib.Core.Path.{◌≡◌, refl, sym, subst}
 use mathlib.Core.Bool.{Bool, true, false, not, cond, ◌&&◌, ◌||◌}
 use mathlib.Core.List.{List, [], ◌∷◌, map}
@@ -14,9 +15,9 @@ use Rattle.encoding.specs.Classes.{Field, Zm, Rm, imm4, xs, Pg, Pc, Rn, Zn, Zt, 
 use Rattle.encoding.specs.declared.Feature.{Feature}
 use Rattle.encoding.specs.declared.Feature.TheVariants.{SVE, SME2, SVE2p1}
 use Rattle.encoding.specs.Decoding.{extension_of, multiple_of, zt_of, store_as}
-use Rattle.encoding.specs.Encoding.{number_of, feature_of, Value, values_in, placed, xs_of, imm_of, is_none, misextends}
+use Rattle.encoding.specs.Encoding.{number_of, feature_of, Value, values_in, placed, xs_of, imm_of, misextends}
 use Rattle.encoding.specs.declared.Extension.{Extension}
-use Rattle.encoding.specs.declared.Extension.TheVariants.{None, Uxtw, Sxtw}
+use Rattle.encoding.specs.declared.Extension.TheVariants.{Uxtw, Sxtw}
 use Rattle.encoding.specs.declared.Store.{Store}
 use Rattle.encoding.specs.declared.Store.TheVariants.{Scatter, Strided, Quadword}
 use Rattle.encoding.proofs.Tests.{every, made}
@@ -75,21 +76,21 @@ placed-sum c (Quadword f) = refl
 
 -- ---- extensions and xs
 
-xs-fits : (h : Bool) (e : Extension) → T (not (misextends h e)) → T (ltb (xs_of e) (2 ^ cond h 1 0))
+xs-fits : (h : Bool) (e : Option Extension) → T (not (misextends h e)) → T (ltb (xs_of e) (2 ^ cond h 1 0))
 xs-fits true None t = absurd t
-xs-fits true Uxtw t = tt
-xs-fits true Sxtw t = tt
+xs-fits true (Some Uxtw) t = tt
+xs-fits true (Some Sxtw) t = tt
 xs-fits false None t = tt
-xs-fits false Uxtw t = absurd t
-xs-fits false Sxtw t = absurd t
+xs-fits false (Some Uxtw) t = absurd t
+xs-fits false (Some Sxtw) t = absurd t
 
-extension-xs : (h : Bool) (e : Extension) → T (not (misextends h e)) → extension_of h (xs_of e) ≡ e
+extension-xs : (h : Bool) (e : Option Extension) → T (not (misextends h e)) → extension_of h (xs_of e) ≡ e
 extension-xs true None t = absurd t
-extension-xs true Uxtw t = refl
-extension-xs true Sxtw t = refl
+extension-xs true (Some Uxtw) t = refl
+extension-xs true (Some Sxtw) t = refl
 extension-xs false None t = refl
-extension-xs false Uxtw t = absurd t
-extension-xs false Sxtw t = absurd t
+extension-xs false (Some Uxtw) t = absurd t
+extension-xs false (Some Sxtw) t = absurd t
 
 xs-extension : (h : Bool) (v : ℕ) → v < 2 ^ cond h 1 0 → xs_of (extension_of h v) ≡ v
 xs-extension true zero l = refl
@@ -100,7 +101,7 @@ xs-extension false v l = sym (lt-one l)
 extended : (h : Bool) (v : ℕ) → T (not (misextends h (extension_of h v)))
 extended true v = go (eqb v 0)
   where
-    go : (b : Bool) → T (not (is_none (cond b Uxtw Sxtw)))
+    go : (b : Bool) → T (not (is_none (cond b (Some Uxtw) (Some Sxtw))))
     go true = tt
     go false = tt
 extended false v = tt

@@ -1,4 +1,5 @@
 -- What a store that encodes to a word has: numbers below 256, and a multiple of 8 bits. Assumes nothing.
+use Rattle.std.specs.Prelude.{Some}
 use mathlib.Core.Path.{◌≡◌}
 use mathlib.Core.Bool.{Bool, true, false, cond}
 use mathlib.Core.List.{List, [], ◌∷◌}
@@ -15,7 +16,6 @@ use Rattle.encoding.specs.Decoding.{zt_of}
 use Rattle.encoding.specs.Encoding.{Value, numbers_in, imm_of, number_of, feature_of, row_for, encode_of}
 use Rattle.encoding.specs.declared.Store.{Store}
 use Rattle.encoding.specs.declared.Store.TheVariants.{Scatter, Strided, Quadword}
-use Rattle.encoding.specs.declared.Encoded.TheVariants.{Word}
 use Rattle.encoding.proofs.Tests.{every}
 use Rattle.encoding.proofs.Rows.{Small, small_at, row-holds}
 use Rattle.encoding.proofs.Signed.{named_small, small-fits}
@@ -103,7 +103,7 @@ pub record Narrow (s : Store) : Type 0 where
   pub first : first_of s < 256
   pub multiple : SFits w8 (multiple_in s)
 
-pub encoded-narrow : (s : Store) (w : ℕ) → encode_of s ≡ Word w → Narrow s
+pub encoded-narrow : (s : Store) (w : ℕ) → encode_of s ≡ Some w → Narrow s
 unfolding classes
 encoded-narrow s w e =
     let t = encoded-fits s w e in

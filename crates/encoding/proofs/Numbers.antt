@@ -1,4 +1,5 @@
 -- The eight numbers of a decoded store are read off the word's bits. Assumes nothing.
+use Rattle.std.specs.Prelude.{Some}
 use mathlib.Core.Path.{◌≡◌, refl, sym, ap, ap₂, ◌∙◌, subst}
 use mathlib.Core.Bool.{Bool, true, false, not, cond, ◌||◌}
 use mathlib.Core.List.{List, [], ◌∷◌}
@@ -42,7 +43,7 @@ first : (a b : Bool) → T a → a ≡ a || b
 first true b t = refl
 first false b t = absurd t
 
-code : (v : ℕ) → v < 2 → extension_number (cond (eqb v 0) Uxtw Sxtw) ≡ 1 + v
+code : (v : ℕ) → v < 2 → extension_number (cond (eqb v 0) (Some Uxtw) (Some Sxtw)) ≡ 1 + v
 code zero h = refl
 code (suc zero) h = refl
 code (suc (suc v)) h = absurd (omega arith)

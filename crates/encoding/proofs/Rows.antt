@@ -1,26 +1,30 @@
 -- The table of classes: facts that antt computes over all rows, and what follows at each. Assumes nothing.
+use Rattle.std.specs.Prelude.{Option, Some, None, unwrap_or, position as position_of}
+use Rattle.std.specs.List.{position_or_len}
 use mathlib.Core.Path.{◌≡◌, refl, sym, ap, ◌∙◌, subst}
 use mathlib.Core.Bool.{Bool, true, false, not, cond, ◌&&◌, ◌||◌}
 use mathlib.Core.List.{List, [], ◌∷◌, map}
-use Prim.Native.Nat.{ℕ, zero, suc, ◌/◌, ◌%◌, ◌^◌, ◌≤◌, ◌<◌}
+use Prim.Native.Nat.{ℕ, zero, suc, ◌+◌, ◌-◌, ◌/◌, ◌^◌, ◌≤◌, ◌<◌}
 use native.Mathlib.Nat.{not-suc-le-zero, le_of_suc-le-suc}
 use native.Mathlib.Omega.{arith}
 use lib.Bits.{bit_and}
-use lib.Dec.{T, eqb, leb, ltb, eqb→eq, eqb_refl, ltb→lt, leb→le, T_not}
+use lib.Dec.{T, eqb, leb, ltb, eqb→eq, eqb_refl, ltb→lt, lt→ltb, leb→le, T_not}
 use lib.Ieee.Fits.{and_i, and_l, and_r}
 use lib.ListN.{length, get_or, get_or-eq_default}
 use borrow.Author.Tests.{eq-eqb}
 use Rattle.encoding.specs.Classes as C
 use Rattle.encoding.specs.Classes.{Field, Zm, Rm, imm4, xs, Pg, Pc, Rn, Zn, Zt, low, flag, Class, no_class, classes}
-use Rattle.encoding.specs.Classes.{class_at, any, every_below, bit, inside, belongs, mask_below, mask_of, has, width}
+use Rattle.encoding.specs.Classes.{class_at, position, any, every_below, bit, inside, belongs, mask_below, mask_of, has, width}
 use Rattle.encoding.specs.declared.Feature.{Feature}
 use Rattle.encoding.specs.declared.Feature.TheVariants.{SVE, SME2, SVE2p1}
 use Rattle.encoding.specs.Decoding.{zt_of, index_of}
-use Rattle.encoding.specs.Encoding.{lowest, row_of, row_numbered, class_numbered}
-use Rattle.encoding.specs.Layouts.{digit_at, packed_of, feature_from}
-use Rattle.encoding.proofs.Tests.{absurdly, all, Facts, facts, cond-false, every, every-at, below_at, below_all, holds}
+use Rattle.encoding.specs.Encoding.{row_of, row_numbered, class_numbered}
+use Rattle.encoding.specs.Layouts.{row_in, listed, IsListed}
+use Rattle.encoding.specs.declared.table.Row.{Row}
+use Rattle.encoding.proofs.Tests.{absurdly, all, Facts, facts, cond-true, cond-false, every, every-at, below_at, below_all, holds}
 use Rattle.encoding.proofs.Search.{position-none, position-only, position-holds}
-use Rattle.encoding.proofs.Places.{Place, row-right, Row, row, mask-member, member-mask}
+use Rattle.encoding.proofs.Places as P
+use Rattle.encoding.proofs.Places.{Place, row-right, row, mask-member, member-mask}
 
 -- ---- each row is sound
 
@@ -41,7 +45,7 @@ unfolding every sound classes any inside has every_below mask_below mask_of
 all_sound = tt
 
 module _ (k : ℕ) (h : k < length classes) where
-  pub row_at : Row (class_at k).fields (places_as (class_at k).feature (class_at k)) (mask_of (class_at k)) (class_at k).base
+  pub row_at : P.Row (class_at k).fields (places_as (class_at k).feature (class_at k)) (mask_of (class_at k)) (class_at k).base
   unfolding sound class_at
   row_at =
       let c = class_at k in
@@ -85,22 +89,6 @@ flag-inj SME2 SVE2p1 e = absurd (omega (arith, e))
 flag-inj SVE2p1 SVE e = absurd (omega (arith, e))
 flag-inj SVE2p1 SME2 e = absurd (omega (arith, e))
 flag-inj SVE2p1 SVE2p1 e = refl
-
--- a feature by a digit, and by its own flag
-pub from-0 : (n : ℕ) → n ≡ 0 → SVE ≡ feature_from n
-from-0 n e = sym (ap feature_from e)
-
-pub from-1 : (n : ℕ) → n ≡ 1 → SME2 ≡ feature_from n
-from-1 n e = sym (ap feature_from e)
-
-pub from-other : (n : ℕ) → (n ≡ 0 → ⊥) → (n ≡ 1 → ⊥) → SVE2p1 ≡ feature_from n
-from-other n f g =
-    sym (cond-false (eqb n 0) _ _ (λ t. f (eqb→eq n 0 t)) ∙ cond-false (eqb n 1) SME2 SVE2p1 (λ t. g (eqb→eq n 1 t)))
-
-pub from-flag : (x : Feature) → feature_from (flag x) ≡ x
-from-flag SVE = refl
-from-flag SME2 = refl
-from-flag SVE2p1 = refl
 
 pub numbered-found : (n k : ℕ) → k < length classes → suc k ≡ n → row_numbered n ≡ k
 unfolding row_numbered class_at
@@ -161,54 +149,163 @@ row-numbered n x h = numbered-found n (row_of n x) h (row-holds n x h).0
 pub found-feature : (n k : ℕ) (x : Feature) → k ≡ row_of n x → k < length classes → (class_at k).feature ≡ x
 found-feature n k x e h = ap (λ (j : ℕ). (class_at j).feature) e ∙ (row-holds n x (subst (λ (j : ℕ). j < length classes) e h)).1
 
--- ---- the code's tables are columns of the table of classes
+-- ---- the code's table
 
-unfoldable pub column : {B : Type 0} → (Class → B) → List B
-column f = map f classes
+unfoldable pub rows : List Row
+rows = map row_in classes
+
+no_row : Row
+no_row = row_in no_class
 
 get_or-map-in : {A B : Type 0} (f : A → B) (l : List A) (d : A) (e : B) (k : ℕ) → k < length l → get_or (map f l) k e ≡ f (get_or l k d)
 get_or-map-in f [] d e k h = absurd (not-suc-le-zero h)
 get_or-map-in f (x ∷ l) d e zero h = refl
 get_or-map-in f (x ∷ l) d e (suc k) h = get_or-map-in f l d e k (le_of_suc-le-suc h)
 
-pub column-at : {B : Type 0} (f : Class → B) (e : B) (k : ℕ) → k < length classes → get_or (column f) k e ≡ f (class_at k)
-unfolding column class_at
-column-at f e k h = get_or-map-in f classes no_class e k h
+pub row-at : (e : Row) (k : ℕ) → k < length classes → get_or rows k e ≡ row_in (class_at k)
+unfolding rows class_at
+row-at e k h = get_or-map-in row_in classes no_class e k h
 
-abbrev pub row-of : Class → List ℕ
-row-of c = mask_of c ∷ c.base ∷ []
+pub listed-row : (k : ℕ) → k < length classes → listed k ≡ Some (row_in (class_at k))
+listed-row k h = cond-true (ltb k (length classes)) (Some (row_in (class_at k))) None (lt→ltb k (length classes) h)
 
--- the decoder's test of a row
-abbrev pub Passes : ℕ → ℕ → Type 0
-Passes k w = bit_and w (get_or (get_or (column row-of) k []) 0 0) ≡ get_or (get_or (column row-of) k []) 1 0
+pub listed-none : (k : ℕ) → length classes ≤ k → listed k ≡ None
+listed-none k h = cond-false (ltb k (length classes)) (Some (row_in (class_at k))) None (λ t. omega (arith, ltb→lt k (length classes) t))
 
-pub passes : (k w : ℕ) → k < length classes → Passes k w → T (belongs (class_at k) w)
-passes k w h e = masked k h w (subst (λ (r : List ℕ). bit_and w (get_or r 0 0) ≡ get_or r 1 0) (column-at row-of [] k h) e)
+module _ {A : Type 0} where
+  some_one : Option A → ℕ
+  some_one None = 0
+  some_one (Some r) = 1
 
-pub member : (k w : ℕ) → k < length classes → w < 2 ^ 32 → T (belongs (class_at k) w) → Passes k w
-member k w h l t = subst (λ (r : List ℕ). bit_and w (get_or r 0 0) ≡ get_or r 1 0) (sym (column-at row-of [] k h)) (unmasked k h w l t)
+  chosen : (b : Bool) (x r : A) → Some r ≡ cond b (Some x) None → T b × (r ≡ x)
+  unfolding some_one
+  chosen true x r e = (tt, ap (λ (o : Option A). unwrap_or o r) e)
+  chosen false x r e = absurdly (sym (ap some_one e))
 
--- two numbers of each class
-all-equal : (f g : Class → ℕ) → T (every (λ c. eqb (f c) (g c)) classes) → (k : ℕ) → k < length classes → f (class_at k) ≡ g (class_at k)
-unfolding class_at
-all-equal f g t k h = eqb→eq (f (class_at k)) (g (class_at k)) (every-at (λ c. eqb (f c) (g c)) classes no_class t k h)
+  unchosen : (b : Bool) (x : A) → None ≡ cond b (Some x) None → T b → ⊥
+  unfolding some_one
+  unchosen true x e t = absurdly (ap some_one e)
+  unchosen false x e t = t
 
--- what a digit of the classes' numbers stands for
-unfoldable pub digits_are : (ℕ → ℕ) → (Class → ℕ) → ℕ → Bool
-digits_are g f j = every (λ c. eqb (g (digit_at (packed_of c) j)) (f c)) classes
+-- a row that is found
+pub known-row : (k : ℕ) (r : Row) → Some r ≡ listed k → (k < length classes) × (r ≡ row_in (class_at k))
+known-row k r e =
+    let q = chosen (ltb k (length classes)) (row_in (class_at k)) r e in
+    (ltb→lt k (length classes) q.0, q.1)
 
-pub digit-at : (k : ℕ) → k < length classes → (n : ℕ) → n ≡ packed_of (class_at k) → (g : ℕ → ℕ) (f : Class → ℕ) (j r : ℕ)
-    → r ≡ g (digit_at n j) → T (digits_are g f j) → r ≡ f (class_at k)
-unfolding digits_are
-digit-at k h n q g f j r e t = e ∙ ap (λ (x : ℕ). g (digit_at x j)) q ∙ all-equal (λ c. g (digit_at (packed_of c) j)) f t k h
+pub unknown-row : (k : ℕ) → None ≡ listed k → k < length classes → ⊥
+unknown-row k e h = unchosen (ltb k (length classes)) (row_in (class_at k)) e (lt→ltb k (length classes) h)
 
--- the last two digits are the class's number
-numbers-last : T (every (λ c. eqb (packed_of c % 256) c.number) classes)
-unfolding every classes packed_of any has lowest
-numbers-last = tt
+-- has its class's number
+pub is-listed : (k : ℕ) (r : Row) → Some r ≡ listed k → IsListed r × (row_numbered r.number ≡ k)
+is-listed k r e =
+    let q = known-row k r e in
+    let n : row_numbered r.number ≡ k = numbered-found r.number k q.0 (sym (number_at k q.0) ∙ sym (ap (λ (x : Row). x.number) q.1)) in (
+      (subst (λ (j : ℕ). j < length classes) (sym n) q.0, q.1 ∙ ap (λ (j : ℕ). row_in (class_at j)) (sym n)),
+      n,
+    )
 
-pub packed-number : (k : ℕ) → k < length classes → packed_of (class_at k) % 256 ≡ suc k
-packed-number k h = all-equal (λ c. packed_of c % 256) (λ c. c.number) numbers-last k h ∙ number_at k h
+-- ---- found by a word
+
+same : (a b : Bool) → (T a → T b) → (T b → T a) → a ≡ b
+same true true f g = refl
+same true false f g = absurd (f tt)
+same false true f g = absurd (g tt)
+same false false f g = refl
+
+-- a class's fixed bits, and what they are
+abbrev pub bits_in : Class → List ℕ
+bits_in c = mask_of c ∷ c.base ∷ []
+
+unfoldable pub fixed : List (List ℕ)
+fixed = map bits_in classes
+
+turned : (a b : Bool) (n m : ℕ) → a ≡ b → n ≡ m → cond (not a) (1 + n) 0 ≡ cond b 0 (suc m)
+turned true b n m e h = ap (λ (x : Bool). cond x 0 (suc m)) e
+turned false b n m e h = let s : 1 + n ≡ suc m = omega (arith, h) in s ∙ ap (λ (x : Bool). cond x 0 (suc m)) e
+
+position-mapped : (p : List ℕ → Bool) (q : Class → Bool) (cs : List Class)
+    → ((k : ℕ) → k < length cs → p (bits_in (get_or cs k no_class)) ≡ q (get_or cs k no_class))
+    → position_or_len p (map bits_in cs) ≡ position q cs
+unfolding position
+position-mapped p q [] f = refl
+position-mapped p q (c ∷ cs) f =
+    turned (p (bits_in c)) (q c) _ _ (f 0 (omega arith)) (position-mapped p q cs (λ k h. f (suc k) (omega arith)))
+
+-- the decoder's test
+abbrev pub fits : ℕ → List ℕ → Bool
+fits w r = eqb (bit_and w (get_or r 0 0)) (get_or r 1 0)
+
+first-fixed : (w : ℕ) → w < 2 ^ 32 → position_or_len (fits w) fixed ≡ index_of w
+unfolding fixed index_of class_at
+first-fixed w l =
+    position-mapped (fits w) (λ c. belongs c w) classes
+    (λ k h.
+    same (eqb (bit_and w (mask_of (class_at k))) (class_at k).base) (belongs (class_at k) w)
+    (λ t. masked k h w (eqb→eq (bit_and w (mask_of (class_at k))) (class_at k).base t))
+    (λ t. holds (eq-eqb (bit_and w (mask_of (class_at k))) (class_at k).base (unmasked k h w l t))))
+
+length-fixed : length fixed ≡ length classes
+unfolding fixed classes
+length-fixed = refl
+
+module _ (w : ℕ) (l : w < 2 ^ 32) where
+  pub fixed-found : (k : ℕ) (e : Row) → Some k ≡ position_of (fits w) fixed → (k < length classes) × (Some (get_or rows k e) ≡ listed (index_of w))
+  fixed-found k e q =
+      let c = chosen (ltb (position_or_len (fits w) fixed) (length fixed)) (position_or_len (fits w) fixed) k q in
+      let i : k ≡ index_of w = c.1 ∙ first-fixed w l in
+      let h : k < length classes =
+      omega (arith, c.1, length-fixed, ltb→lt (position_or_len (fits w) fixed) (length fixed) c.0) in (
+        h,
+        ap Some (row-at e k h) ∙ sym (listed-row k h) ∙ ap listed i,
+      )
+
+  pub fixed-none : None ≡ position_of (fits w) fixed → None ≡ listed (index_of w)
+  fixed-none q =
+      let n : position_or_len (fits w) fixed < length fixed → ⊥ =
+      λ h. unchosen (ltb (position_or_len (fits w) fixed) (length fixed)) (position_or_len (fits w) fixed) q (lt→ltb _ _ h) in
+      let i = first-fixed w l in
+      sym (listed-none (index_of w) (omega (arith, i, length-fixed, n)))
+
+-- ---- found by a number
+
+pub row-by-number : (n : ℕ) (e : Row) → 1 ≤ n → n ≤ length classes → get_or rows (n - 1) e ≡ row_in (class_numbered n)
+row-by-number n e h l =
+    row-at e (n - 1) (omega arith)
+    ∙ ap (λ (k : ℕ). row_in (class_at k)) (sym (numbered-found n (n - 1) (omega arith) (omega arith)))
+
+pub number-listed : (n : ℕ) (e : Row) → 1 ≤ n → n ≤ length classes → Some (get_or rows (n - 1) e) ≡ listed (row_numbered n)
+number-listed n e h l =
+    ap Some (row-by-number n e h l)
+    ∙ sym (listed-row (row_numbered n)
+    (subst (λ (k : ℕ). k < length classes) (sym (numbered-found n (n - 1) (omega arith) (omega arith))) (omega arith)))
+
+pub number-unlisted : (n : ℕ) → (1 ≤ n → n ≤ length classes → ⊥) → None ≡ listed (row_numbered n)
+number-unlisted n f =
+    let e = numbered-none n (λ k h q. f (omega arith) (omega arith)) in
+    sym (listed-none (row_numbered n) (omega (arith, e)))
+
+-- ---- and by a feature
+
+module _ (n : ℕ) (x : Feature) where
+  pub unlisted-of : None ≡ listed (row_numbered n) → None ≡ listed (row_of n x)
+  unlisted-of e =
+      let q = row-none n x (λ k h s g. unknown-row (row_numbered n) e (omega (arith, numbered-found n k h s))) in
+      sym (listed-none (row_of n x) (omega (arith, q)))
+
+  module _ (r : Row) (e : Some r ≡ listed (row_numbered n)) where
+    feature-is : r.feature ≡ (class_numbered n).feature
+    feature-is = ap (λ (y : Row). y.feature) (known-row (row_numbered n) r e).1
+
+    pub listed-of : r.feature ≡ x → Some r ≡ listed (row_of n x)
+    listed-of f =
+        let h = (known-row (row_numbered n) r e).0 in
+        e ∙ ap listed (sym (row-found n x (row_numbered n) h (numbered_is n h) (sym feature-is ∙ f)))
+
+    pub other-of : (r.feature ≡ x → ⊥) → None ≡ listed (row_of n x)
+    other-of f =
+        let q = row-none n x (λ k h s g. f (feature-is ∙ ap (λ (j : ℕ). (class_at j).feature) (numbered-found n k h s) ∙ g)) in
+        sym (listed-none (row_of n x) (omega (arith, q)))
 
 -- ---- how large a class's numbers are, and which fields all classes of a feature have
 
@@ -307,10 +404,26 @@ strides c (pc, (rn, (t, (nreg, u)))) =
       nreg = ltb→lt 0 c.nreg nreg;
     }
 
+-- no field of a layout has more than 5 bits
+abbrev narrow : Class → List Bool
+narrow c = leb (width c xs) 5 ∷ leb (width c Rm) 5 ∷ leb (width c imm4) 5 ∷ leb (width c (zt_of c)) 5 ∷ []
+
+all-narrow : T (every (λ c. all (narrow c)) classes)
+unfolding every classes any has
+all-narrow = tt
+
 module _ (k : ℕ) (h : k < length classes) where
   pub small_at : Small (class_at k)
   unfolding class_at
   small_at = smallness (class_at k) (facts (small (class_at k)) (every-at (λ c. all (small c)) classes no_class all_small k h))
+
+  pub narrow_at : (width (class_at k) xs ≤ 5) × (width (class_at k) Rm ≤ 5) × (width (class_at k) imm4 ≤ 5)
+      × (width (class_at k) (zt_of (class_at k)) ≤ 5)
+  unfolding class_at
+  narrow_at =
+      let c = class_at k in
+      let f = facts (narrow c) (every-at (λ c. all (narrow c)) classes no_class all-narrow k h) in
+      (leb→le _ 5 f.0, leb→le _ 5 f.1.0, leb→le _ 5 f.1.1.0, leb→le _ 5 f.1.1.1.0)
 
   formed-as : (x : Feature) → (class_at k).feature ≡ x → Facts (formed_as x (class_at k))
   unfolding class_at

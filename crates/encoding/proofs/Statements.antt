@@ -1,4 +1,5 @@
 -- The proofs of specs/Statements.antt, each of exactly the type that stands there. Assumes nothing.
+use Rattle.std.specs.Prelude.{Option, Some, None}
 use mathlib.Core.Path.{◌≡◌, refl, sym, ap, ◌∙◌, subst}
 use mathlib.Core.Bool.{Bool, true, false, not, cond, ◌||◌}
 use mathlib.Core.Logic.{◌⊎◌, inl, inr}
@@ -16,10 +17,6 @@ use Rattle.encoding.specs.Answers.{decoded_number, encoded_number}
 use Rattle.encoding.specs.Statements.{DecodesItsClass, UndefinedOutside, OneClass, MaskIsMembership, RefusedForACause}
 use Rattle.encoding.specs.Statements.{EncodesDecoded, DecodesEncoded, ScatterWidths, StridedWidths}
 use Rattle.encoding.specs.declared.Store.{Store}
-use Rattle.encoding.specs.declared.Decoded.{Decoded}
-use Rattle.encoding.specs.declared.Decoded.TheVariants.{Known, Undefined}
-use Rattle.encoding.specs.declared.Encoded.{Encoded}
-use Rattle.encoding.specs.declared.Encoded.TheVariants.{Word, Fields}
 use Rattle.encoding.proofs.Tests.{absurdly, yes, no, holds, fails}
 use Rattle.encoding.proofs.Places.{Row, reads, sum_at, joined, made-small, made-masked, made_reads}
 use Rattle.encoding.proofs.Rows.{places_as, row_at, masked, unmasked, number_at, row-found, row-holds, row-numbered, small_at}
@@ -32,16 +29,16 @@ use Rattle.encoding.proofs.Inverse.{from-values, store-values, store-fits}
 -- ---- decoding
 
 -- what decoding answers, by its test
-known : (b : Bool) (x s : Store) → cond b (Known x) Undefined ≡ Known s → T b × (x ≡ s)
+known : (b : Bool) (x s : Store) → cond b (Some x) None ≡ Some s → T b × (x ≡ s)
 known true x s e = (tt, cc)
 known false x s e = absurdly cc
 
-unknown : (b : Bool) (x : Store) → cond b (Known x) Undefined ≡ Undefined → T b → ⊥
+unknown : (b : Bool) (x : Store) → cond b (Some x) None ≡ None → T b → ⊥
 unknown true x e t = absurdly cc
 unknown false x e t = t
 
 -- the class that a decoded store is of
-pub decoded-index : (w : ℕ) (s : Store) → decode_of w ≡ Known s → (index_of w < length classes) × (store_of (class_at (index_of w)) w ≡ s)
+pub decoded-index : (w : ℕ) (s : Store) → decode_of w ≡ Some s → (index_of w < length classes) × (store_of (class_at (index_of w)) w ≡ s)
 unfolding decode_of
 decoded-index w s e =
     let t = known (ltb (index_of w) (length classes)) (store_of (class_at (index_of w)) w) s e in
@@ -66,9 +63,9 @@ decodes-its-class k w h = (
   (λ b. sym (defined w k (sym (index-found k w h (holds b))) h (store_of (class_at k) w) refl)),
 )
 
-is-undefined : (d : Decoded) → decoded_number d ≡ 4 → d ≡ Undefined
-is-undefined (Known s) e = absurd (omega (arith, e))
-is-undefined Undefined e = refl
+is-undefined : (d : Option Store) → decoded_number d ≡ 4 → d ≡ None
+is-undefined (Some s) e = absurd (omega (arith, e))
+is-undefined None e = refl
 
 pub undefined-outside : UndefinedOutside
 unfolding decode_of
@@ -105,11 +102,11 @@ mask-is-membership k w h l = ((λ e. yes (belongs (class_at k) w) (masked k h w 
 -- ---- encoding
 
 -- what encoding answers, by its test
-word-told : (b : Bool) (x w : ℕ) → cond b Fields (Word x) ≡ Word w → (b ≡ false) × (x ≡ w)
+word-told : (b : Bool) (x w : ℕ) → cond b None (Some x) ≡ Some w → (b ≡ false) × (x ≡ w)
 word-told true x w e = absurdly cc
 word-told false x w e = (refl, cc)
 
-fields_told : (b : Bool) (x : ℕ) → cond b Fields (Word x) ≡ Fields → b ≡ true
+fields_told : (b : Bool) (x : ℕ) → cond b None (Some x) ≡ None → b ≡ true
 fields_told true x e = refl
 fields_told false x e = absurdly cc
 
@@ -132,9 +129,9 @@ of_one false false false false false (inr (inr (inl h))) = h
 of_one false false false false false (inr (inr (inr (inl h)))) = h
 of_one false false false false false (inr (inr (inr (inr h)))) = h
 
-is-fields : (d : Encoded) → encoded_number d ≡ 11 → d ≡ Fields
-is-fields (Word w) e = absurd (omega (arith, e))
-is-fields Fields e = refl
+is-fields : (d : Option ℕ) → encoded_number d ≡ 11 → d ≡ None
+is-fields (Some w) e = absurd (omega (arith, e))
+is-fields None e = refl
 
 pub refused-for-a-cause : RefusedForACause
 unfolding encode_of refused
@@ -144,7 +141,7 @@ refused-for-a-cause s =
           one_of (not_listed s) (out_of_range c s) (lacked c s) (unnamed c s) (misextended c s)
           (fields_told (refused s) _ (is-fields (encode_of s) e))),
       (λ h.
-          ap (λ (b : Bool). encoded_number (cond b Fields (Word (c.base + placed (values_in c s)))))
+          ap (λ (b : Bool). encoded_number (cond b None (Some (c.base + placed (values_in c s)))))
           (of_one (not_listed s) (out_of_range c s) (lacked c s) (unnamed c s) (misextended c s) h)),
     )
 
@@ -204,7 +201,7 @@ module _ (s : Store) (e : refused s ≡ false) where
   pub class-numbered : class_numbered (number_of s) ≡ class_for s
   class-numbered = ap class_at same_row
 
-pub encoded-fits : (s : Store) (w : ℕ) → encode_of s ≡ Word w
+pub encoded-fits : (s : Store) (w : ℕ) → encode_of s ≡ Some w
     → (row_for s < length classes) × T (fits (class_for s) s) × ((class_for s).base + placed (values_in (class_for s) s) ≡ w)
 unfolding encode_of
 encoded-fits s w e =
@@ -213,7 +210,7 @@ encoded-fits s w e =
     (a.0, a.1, t.1)
 
 -- a decoded store isn't refused
-pub known-accepted : (w : ℕ) (s : Store) → decode_of w ≡ Known s → refused s ≡ false
+pub known-accepted : (w : ℕ) (s : Store) → decode_of w ≡ Some s → refused s ≡ false
 unfolding store_of
 known-accepted w s e =
     let k = index_of w in
@@ -225,7 +222,7 @@ known-accepted w s e =
     ∙ refused-is (store_as x c w) k (word_row w l) l
     ∙ ap not (yes (fits c (store_as x c w)) (store-fits c (small_at k l) w x (λ q. striding k l q)))
 
-pub decoded-accepted : (w : ℕ) (s : Store) → w < 2 ^ 32 → decode_of w ≡ Known s → refused s ≡ false
+pub decoded-accepted : (w : ℕ) (s : Store) → w < 2 ^ 32 → decode_of w ≡ Some s → refused s ≡ false
 decoded-accepted w s h e = known-accepted w s e
 
 pub decodes_encoded : DecodesEncoded

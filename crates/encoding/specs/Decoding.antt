@@ -1,19 +1,17 @@
 -- What a word is: document 01's decoded store. Assumes nothing.
-use Rattle.std.specs.Prelude.{ℕ, ◌+◌, ◌*◌, Bool, true, false, cond, eqb, ltb, ℤ, pos, ◌-ℤ◌, ◌*ℤ◌, length}
+use Rattle.std.specs.Prelude.{ℕ, ◌+◌, ◌*◌, Bool, true, false, cond, eqb, ltb, ℤ, pos, ◌-ℤ◌, ◌*ℤ◌, length, Option, Some, None}
 use Rattle.encoding.specs.Classes.{Field, Zm, Rm, imm4, xs, Pg, Pc, Rn, Zn, Zt, T, Zt3, Zt2, Class, classes, class_at, position}
 use Rattle.encoding.specs.Classes.{belongs, has, read}
 use Rattle.encoding.specs.declared.Feature.{Feature}
 use Rattle.encoding.specs.declared.Feature.TheVariants.{SVE, SME2, SVE2p1}
 use Rattle.encoding.specs.declared.Extension.{Extension}
-use Rattle.encoding.specs.declared.Extension.TheVariants.{None, Uxtw, Sxtw}
+use Rattle.encoding.specs.declared.Extension.TheVariants.{Uxtw, Sxtw}
 use Rattle.encoding.specs.declared.Store.{Store}
 use Rattle.encoding.specs.declared.Store.TheVariants.{Scatter, Strided, Quadword}
-use Rattle.encoding.specs.declared.Decoded.{Decoded}
-use Rattle.encoding.specs.declared.Decoded.TheVariants.{Known, Undefined}
 
 -- "for classes with an offset extension whether that is UXTW (xs 0) or SXTW (xs 1)"; None where the class has no xs
-abbrev pub extension_of : Bool → ℕ → Extension
-extension_of true v = cond (eqb v 0) Uxtw Sxtw
+abbrev pub extension_of : Bool → ℕ → Option Extension
+extension_of true v = cond (eqb v 0) (Some Uxtw) (Some Sxtw)
 extension_of false v = None
 
 -- "imm4 read as −8..7"
@@ -61,5 +59,5 @@ unfoldable pub index_of : ℕ → ℕ
 index_of w = position (λ c. belongs c w) classes
 
 -- "Decoding a bare word looks at no flag: it answers class and fields, or 4 when there is no class."
-unfoldable pub decode_of : ℕ → Decoded
-decode_of w = cond (ltb (index_of w) (length classes)) (Known (store_of (class_at (index_of w)) w)) Undefined
+unfoldable pub decode_of : ℕ → Option Store
+decode_of w = cond (ltb (index_of w) (length classes)) (Some (store_of (class_at (index_of w)) w)) None

@@ -1,16 +1,14 @@
 -- The word that a decoded store is, and the causes for which there is none: document 01's row 11. Assumes nothing.
-use Rattle.std.specs.Prelude.{ℕ, zero, suc, ◌+◌, ◌*◌, ◌/◌, ◌%◌, ◌^◌, Bool, true, false, not, cond, ◌&&◌, ◌||◌, List, [], ◌∷◌, eqb, leb, ltb, ℤ, pos, negsuc, length}
+use Rattle.std.specs.Prelude.{ℕ, zero, suc, ◌+◌, ◌*◌, ◌/◌, ◌%◌, ◌^◌, Bool, true, false, not, cond, ◌&&◌, ◌||◌, List, [], ◌∷◌, eqb, leb, ltb, ℤ, pos, negsuc, length, Option, Some, None, is_none}
 use Rattle.encoding.specs.Classes.{Field, Zm, Rm, imm4, xs, Pg, Pc, Rn, Zn, Zt, T, low, size, flag, Class, classes, class_at}
 use Rattle.encoding.specs.Classes.{position, any, has, width}
 use Rattle.encoding.specs.declared.Feature.{Feature}
 use Rattle.encoding.specs.declared.Feature.TheVariants.{SVE, SME2, SVE2p1}
 use Rattle.encoding.specs.Decoding.{multiple_of, zt_of}
 use Rattle.encoding.specs.declared.Extension.{Extension}
-use Rattle.encoding.specs.declared.Extension.TheVariants.{None, Uxtw, Sxtw}
+use Rattle.encoding.specs.declared.Extension.TheVariants.{Uxtw, Sxtw}
 use Rattle.encoding.specs.declared.Store.{Store}
 use Rattle.encoding.specs.declared.Store.TheVariants.{Scatter, Strided, Quadword}
-use Rattle.encoding.specs.declared.Encoded.{Encoded}
-use Rattle.encoding.specs.declared.Encoded.TheVariants.{Word, Fields}
 
 -- ---- the class
 
@@ -61,10 +59,10 @@ numbers_in (Scatter f) = (Zm is f.zm) ∷ (Pg is f.pg) ∷ (Rn is f.rn) ∷ (Zt 
 numbers_in (Strided f) = (Rm is f.rm) ∷ (Pc is f.pc) ∷ (Rn is f.rn) ∷ []
 numbers_in (Quadword f) = (Rm is f.rm) ∷ (Pg is f.pg) ∷ (Zn is f.zn) ∷ (Zt is f.zt) ∷ []
 
-abbrev pub xs_of : Extension → ℕ
+abbrev pub xs_of : Option Extension → ℕ
 xs_of None = 0
-xs_of Uxtw = 0
-xs_of Sxtw = 1
+xs_of (Some Uxtw) = 0
+xs_of (Some Sxtw) = 1
 
 abbrev pub eqℤ : ℤ → ℤ → Bool
 eqℤ (pos m) (pos n) = eqb m n
@@ -120,12 +118,7 @@ unnamed c (Strided f) =
 unnamed c (Quadword f) = false
 
 -- "an extension where the class has none or none where it has one"
-abbrev pub is_none : Extension → Bool
-is_none None = true
-is_none Uxtw = false
-is_none Sxtw = false
-
-abbrev pub misextends : Bool → Extension → Bool
+abbrev pub misextends : Bool → Option Extension → Bool
 misextends true e = is_none e
 misextends false e = not (is_none e)
 
@@ -146,5 +139,5 @@ placed [] = 0
 placed (v ∷ vs) = v.number * 2 ^ low v.field + placed vs
 
 -- "The encoder answers a word or 11."
-unfoldable pub encode_of : Store → Encoded
-encode_of s = cond (refused s) Fields (Word ((class_for s).base + placed (values_in (class_for s) s)))
+unfoldable pub encode_of : Store → Option ℕ
+encode_of s = cond (refused s) None (Some ((class_for s).base + placed (values_in (class_for s) s)))

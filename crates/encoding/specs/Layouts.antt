@@ -1,22 +1,21 @@
--- What the code keeps of a class, beside mask and base word. For the contracts of its own functions. Assumes nothing.
-use Rattle.std.specs.Prelude.{ℕ, ◌+◌, ◌*◌, ◌/◌, ◌%◌, ◌^◌, ◌≤◌, ◌<◌, cond, leb, eqb}
-use Rattle.encoding.specs.Classes.{Rm, imm4, xs, flag, Class, width}
+-- What the code keeps of a class. For the contracts of its own functions. Assumes nothing.
+use Rattle.std.specs.Prelude.{◌≡◌, ℕ, ◌/◌, ◌^◌, ◌<◌, cond, leb, ltb, length, Option, Some, None}
+use Rattle.encoding.specs.Classes.{Rm, imm4, xs, Class, classes, class_at, width}
 use Rattle.encoding.specs.Decoding.{zt_of}
-use Rattle.encoding.specs.Encoding.{lowest}
-use Rattle.encoding.specs.declared.Feature.{Feature}
-use Rattle.encoding.specs.declared.Feature.TheVariants.{SVE, SME2, SVE2p1}
+use Rattle.encoding.specs.Encoding.{lowest, row_numbered, class_numbered}
 use Rattle.encoding.specs.declared.Layout.{Layout}
 use Rattle.encoding.specs.declared.Number.{Number}
 use Rattle.encoding.specs.declared.Number.TheVariants.{Nreg, RmValues, Step, Size, Exponent, Scale}
+use Rattle.encoding.specs.declared.table.Row.{Row}
 
 abbrev pub layout_of : Class → Layout
 layout_of c =
     record {
       nreg = c.nreg;
-      xs = 2 ^ width c xs;
-      rm = 2 ^ width c Rm;
-      imm4 = 2 ^ width c imm4;
-      zt = 2 ^ width c (zt_of c);
+      xs = width c xs;
+      rm = width c Rm;
+      imm4 = width c imm4;
+      zt = width c (zt_of c);
     }
 
 -- the power of 2 that a number up to 16 is
@@ -31,32 +30,24 @@ number_in c Size = c.msize / 8
 number_in c Exponent = exponent (c.msize / 8)
 number_in c Scale = c.scale
 
--- hexadecimal digit k of a number, counted from the right
-abbrev pub digit_at : ℕ → ℕ → ℕ
-digit_at x k = x / 2 ^ (4 * k) % 16
+-- what the code keeps of a class
+abbrev pub row_in : Class → Row
+row_in c =
+    record {
+      number = c.number;
+      base = c.base;
+      feature = c.feature;
+      layout = layout_of c;
+      step = c.esize / 8;
+      size = c.msize / 8;
+      exponent = exponent (c.msize / 8);
+      scale = c.scale;
+    }
 
--- the feature, nreg, the widths of four fields, esize/8 and msize/8 as powers of 2, the scale, and in two digits the class's number
-unfoldable pub packed_of : Class → ℕ
-packed_of c =
-    c.number
-    + 256 * (c.scale
-    + 16 * (exponent (c.msize / 8)
-    + 16 * (exponent (c.esize / 8)
-    + 16 * (width c (zt_of c)
-    + 16 * (width c imm4
-    + 16 * (width c Rm
-    + 16 * (width c xs
-    + 16 * (c.nreg
-    + 16 * flag c.feature))))))))
+-- the row of the table with this index, None where the table has none
+abbrev pub listed : ℕ → Option Row
+listed k = cond (ltb k (length classes)) (Some (row_in (class_at k))) None
 
--- the feature whose flag a digit is
-abbrev pub feature_from : ℕ → Feature
-feature_from n = cond (eqb n 0) SVE (cond (eqb n 1) SME2 SVE2p1)
-
--- how large its numbers are
-pub record Bounded (l : Layout) : Type 0 where
-  pub nreg : l.nreg ≤ 4
-  pub xs : (0 < l.xs) × (l.xs ≤ 2)
-  pub rm : (0 < l.rm) × (l.rm ≤ 32)
-  pub imm4 : (0 < l.imm4) × (l.imm4 ≤ 16)
-  pub zt : (0 < l.zt) × (l.zt ≤ 8)
+-- a row of the table, by its class's number
+abbrev pub IsListed : Row → Type 0
+IsListed r = (row_numbered r.number < length classes) × (r ≡ row_in (class_numbered r.number))

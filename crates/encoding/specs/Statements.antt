@@ -1,6 +1,6 @@
 -- What is promised of decoding and encoding, beside the contracts of `decode` and `encode`. Each has its proof in
 -- proofs/Statements.antt. Assumes nothing.
-use Rattle.std.specs.Prelude.{ℕ, ◌+◌, ◌-◌, ◌*◌, ◌/◌, ◌%◌, ◌^◌, ◌≤◌, ◌<◌, true, false, cond, ◌||◌, List, [], ◌∷◌, ◌↔◌, ◌⊎◌, ◌≡◌, ltb, length, take, drop}
+use Rattle.std.specs.Prelude.{ℕ, ◌+◌, ◌-◌, ◌*◌, ◌/◌, ◌%◌, ◌^◌, ◌≤◌, ◌<◌, true, false, cond, ◌||◌, List, [], ◌∷◌, ◌↔◌, ◌⊎◌, ◌≡◌, ltb, length, take, drop, Some}
 use Rattle.std.specs.Int.Bits.{bit_and}
 use Rattle.encoding.specs.Classes.{Zm, Rm, imm4, xs, T, Zt3, Class, class, classes, class_at, bit, belongs, mask_of, has}
 use Rattle.encoding.specs.Decoding.{store_of, decode_of}
@@ -8,13 +8,11 @@ use Rattle.encoding.specs.Answers.{decoded_number, decoded_numbers, encoded_numb
 use Rattle.encoding.specs.Encoding.{class_for, not_listed, out_of_range, lacked, unnamed, misextended, encode_of}
 use Rattle.encoding.specs.declared.Feature.TheVariants.{SVE, SME2}
 use Rattle.encoding.specs.declared.Store.{Store}
-use Rattle.encoding.specs.declared.Decoded.TheVariants.{Known}
-use Rattle.encoding.specs.declared.Encoded.TheVariants.{Word}
 
 -- decoding answers a store of a class exactly when the word belongs to that class
 abbrev pub DecodesItsClass : Type 0
 DecodesItsClass =
-    (k w : ℕ) → k < length classes → (decode_of w ≡ Known (store_of (class_at k) w)) ↔ (belongs (class_at k) w ≡ true)
+    (k w : ℕ) → k < length classes → (decode_of w ≡ Some (store_of (class_at k) w)) ↔ (belongs (class_at k) w ≡ true)
 
 -- and 4 exactly when it belongs to none
 abbrev pub UndefinedOutside : Type 0
@@ -85,11 +83,11 @@ RefusedForACause = (s : Store) → (encoded_number (encode_of s) ≡ 11) ↔ Cau
 
 -- encoding is decoding's inverse: what a word decodes to encodes to that word
 abbrev pub EncodesDecoded : Type 0
-EncodesDecoded = (w : ℕ) (s : Store) → w < 2 ^ 32 → decode_of w ≡ Known s → encode_of s ≡ Word w
+EncodesDecoded = (w : ℕ) (s : Store) → w < 2 ^ 32 → decode_of w ≡ Some s → encode_of s ≡ Some w
 
 -- and what a store encodes to is a 32-bit word that decodes to that store
 abbrev pub DecodesEncoded : Type 0
-DecodesEncoded = (s : Store) (w : ℕ) → encode_of s ≡ Word w → (w < 2 ^ 32) × (decode_of w ≡ Known s)
+DecodesEncoded = (s : Store) (w : ℕ) → encode_of s ≡ Some w → (w < 2 ^ 32) × (decode_of w ≡ Some s)
 
 -- ---- the eight numbers of a decoded store, from the word's bits alone
 

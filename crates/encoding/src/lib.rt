@@ -1,30 +1,28 @@
 // Words and decoded stores: which class of document 01 a word belongs to, and what its fields say. The way back is crate `encoder`.
 #![tactic(auto)]
 
-pub mod complement;
 pub mod table;
 
-ghost use Rattle.std.specs.Prelude.{◌≡◌, ◌<◌, ◌≤◌, length};
-ghost use Rattle.encoding.specs.Classes.{classes, class_at};
+ghost use Rattle.std.specs.Prelude.{◌≡◌, ◌^◌, ◌<◌, ◌≤◌, length};
+ghost use Rattle.encoding.specs.Classes.{classes};
 ghost use Rattle.encoding.specs.declared.Feature.TheVariants.{SVE, SME2, SVE2p1};
 ghost use Rattle.encoding.specs.Decoding.{decode_of, store_of, multiple_of, extension_of};
 ghost use Rattle.encoding.specs.Encoding.{class_numbered, row_numbered};
-ghost use Rattle.encoding.specs.Layouts.{number_in};
+ghost use Rattle.encoding.specs.Layouts.{IsListed, number_in};
 
-use table::{CLASSES, feature_at, index_of, layout_of, number_at, row_numbered};
+use table::{ROWS, Row, row_for, row_numbered};
 
 // What a class needs: document 01's first three flags.
-#[derive(Clone, Copy)]
+#[derive(Clone, Copy, PartialEq, Eq)]
 pub enum Feature {
     SVE,
     SME2,
     SVE2p1,
 }
 
-// How a scatter store's 32-bit offset is extended; None for 64-bit offsets.
+// How a 32-bit offset is extended to 64 bits.
 #[derive(Clone, Copy)]
 pub enum Extension {
-    None,
     Uxtw,
     Sxtw,
 }
@@ -33,7 +31,8 @@ pub enum Extension {
 pub struct ScatterFields {
     pub class: u8,
     pub zm: u8,
-    pub extension: Extension,
+    // None for 64-bit offsets.
+    pub extension: Option<Extension>,
     pub pg: u8,
     pub rn: u8,
     pub zt: u8,
@@ -69,22 +68,8 @@ pub enum Store {
     Quadword(QuadwordFields),
 }
 
-// What decoding answers: a store, or verdict 4.
-#[derive(Clone, Copy)]
-pub enum Decoded {
-    Known(Store),
-    Undefined,
-}
-
-// What encoding answers: a word, or verdict 11.
-#[derive(Clone, Copy)]
-pub enum Encoded {
-    Word(u32),
-    Fields,
-}
-
-// What decoding and encoding need of a class: its number of registers, and how many values the fields can take in which classes of
-// one feature differ, 1 for a field that the class lacks.
+// What decoding and encoding need of a class: its number of registers, and how many bits the fields have in which classes of one
+// feature differ, 0 for a field that the class lacks.
 #[derive(Clone, Copy)]
 pub struct Layout {
     pub nreg: u32,
@@ -106,6 +91,14 @@ pub enum Number {
     Scale,
 }
 
+// How many values a field of so many bits can take.
+pub fn values(bits: u32) -> u32
+    requires { bits < 32 }
+    ensures { result ≡ 2 ^ bits }
+{
+    1 << bits
+}
+
 // imm4 read as -8..7, times the number of registers.
 pub fn multiple(imm4: u8, nreg: u32) -> i64
     requires { (imm4 < 16) × (nreg ≤ 4) }
@@ -119,29 +112,28 @@ pub fn multiple(imm4: u8, nreg: u32) -> i64
 }
 
 // xs 0 is UXTW and 1 is SXTW, in a class that has xs.
-fn extension_of(has: bool, xs: u32) -> Extension
+fn extension_of(has: bool, xs: u32) -> Option<Extension>
     ensures { result ≡ extension_of has xs }
 {
-    if has {
-        if xs == 0 {
-            Extension::Uxtw
-        } else {
-            Extension::Sxtw
-        }
-    } else {
-        Extension::None
+    if !has {
+        return None;
     }
+    Some(if xs == 0 {
+        Extension::Uxtw
+    } else {
+        Extension::Sxtw
+    })
 }
 
-// The fields of a word of class k + 1, by the class's feature.
-fn scatter(k: usize, word: u32) -> ScatterFields
-    requires { (k < length classes) × ((class_at k).feature ≡ SVE) }
-    ensures { Store.Scatter result ≡ store_of (class_at k) word }
+// The fields of a word of the row's class, by the class's feature.
+fn scatter(row: Row, word: u32) -> ScatterFields
+    requires { IsListed row × (row.feature ≡ SVE) }
+    ensures { Store.Scatter result ≡ store_of (class_numbered row.number) word }
 {
-    let layout = layout_of(k);
-    let extension = extension_of(layout.xs == 2, word / 16384 % layout.xs);
+    let layout = row.layout;
+    let extension = extension_of(layout.xs == 1, word / 16384 % values(layout.xs));
     ScatterFields {
-        class: (k + 1) as u8,
+        class: row.number,
         zm: (word / 65536 % 32) as u8,
         extension,
         pg: (word / 1024 % 8) as u8,
@@ -150,29 +142,29 @@ fn scatter(k: usize, word: u32) -> ScatterFields
     }
 }
 
-fn strided(k: usize, word: u32) -> StridedFields
-    requires { (k < length classes) × ((class_at k).feature ≡ SME2) }
-    ensures { Store.Strided result ≡ store_of (class_at k) word }
+fn strided(row: Row, word: u32) -> StridedFields
+    requires { IsListed row × (row.feature ≡ SME2) }
+    ensures { Store.Strided result ≡ store_of (class_numbered row.number) word }
 {
-    let layout = layout_of(k);
-    let imm4 = (word / 65536 % layout.imm4) as u8;
+    let layout = row.layout;
+    let imm4 = (word / 65536 % values(layout.imm4)) as u8;
     let multiple = multiple(imm4, layout.nreg);
     StridedFields {
-        class: (k + 1) as u8,
-        rm: (word / 65536 % layout.rm) as u8,
+        class: row.number,
+        rm: (word / 65536 % values(layout.rm)) as u8,
         multiple: multiple as i8,
         pc: (word / 1024 % 8) as u8,
         rn: (word / 32 % 32) as u8,
-        first: (word / 16 % 2 * 16 + word % layout.zt) as u8,
+        first: (word / 16 % 2 * 16 + word % values(layout.zt)) as u8,
     }
 }
 
-fn quadword(k: usize, word: u32) -> QuadwordFields
-    requires { (k < length classes) × ((class_at k).feature ≡ SVE2p1) }
-    ensures { Store.Quadword result ≡ store_of (class_at k) word }
+fn quadword(row: Row, word: u32) -> QuadwordFields
+    requires { IsListed row × (row.feature ≡ SVE2p1) }
+    ensures { Store.Quadword result ≡ store_of (class_numbered row.number) word }
 {
     QuadwordFields {
-        class: (k + 1) as u8,
+        class: row.number,
         rm: (word / 65536 % 32) as u8,
         pg: (word / 1024 % 8) as u8,
         zn: (word / 32 % 32) as u8,
@@ -180,30 +172,26 @@ fn quadword(k: usize, word: u32) -> QuadwordFields
     }
 }
 
-// What a word is: a store of one of the classes, or undefined. No flag is looked at.
-pub fn decode(word: u32) -> Decoded
+// The store that a word is; None, verdict 4, where it is of no class. No flag is looked at.
+pub fn decode(word: u32) -> Option<Store>
     ensures { result ≡ decode_of word }
 {
-    let k = index_of(word);
-    if CLASSES <= k {
-        return Decoded::Undefined;
-    }
-    match feature_at(k) {
-        Feature::SVE => Decoded::Known(Store::Scatter(scatter(k, word))),
-        Feature::SME2 => Decoded::Known(Store::Strided(strided(k, word))),
-        Feature::SVE2p1 => Decoded::Known(Store::Quadword(quadword(k, word))),
-    }
+    let row = row_for(word)?;
+    Some(match row.feature {
+        Feature::SVE => Store::Scatter(scatter(row, word)),
+        Feature::SME2 => Store::Strided(strided(row, word)),
+        Feature::SVE2p1 => Store::Quadword(quadword(row, word)),
+    })
 }
 
 // The feature of the class with this number; SVE where the list has no such class.
 pub fn feature_of(class: u8) -> Feature
     ensures { result ≡ (class_numbered class).feature }
 {
-    let k = row_numbered(class);
-    if CLASSES <= k {
-        return Feature::SVE;
+    match row_numbered(class) {
+        Some(row) => row.feature,
+        None => Feature::SVE,
     }
-    feature_at(k)
 }
 
 // A number of the class that has this number in the list.
@@ -211,5 +199,14 @@ pub fn number_for(class: u8, number: Number) -> u32
     requires { row_numbered class < length classes }
     ensures { result ≡ number_in (class_numbered class) number }
 {
-    number_at((class - 1) as usize, number)
+    // Not `row_numbered(class).unwrap()`, whose test makes a contiguous store at VB 16 7 % slower.
+    let row = &ROWS[(class - 1) as usize];
+    match number {
+        Number::Nreg => row.layout.nreg,
+        Number::RmValues => values(row.layout.rm),
+        Number::Step => row.step,
+        Number::Size => row.size,
+        Number::Exponent => row.exponent,
+        Number::Scale => row.scale,
+    }
 }

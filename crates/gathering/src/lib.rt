@@ -9,14 +9,7 @@ ghost use Rattle.gathering.specs.Gathering.{GatheredAs};
 
 use elements::VectorAccess;
 use encoding::Extension;
-
-// All active elements lie in the window, and the array's first n entries are their keys; or the lowest that doesn't, with its first
-// address.
-#[derive(Clone, Copy)]
-pub enum Gathered {
-    Keys { n: usize },
-    Outside { element: u64, address: u64 },
-}
+use verdicts::Outside;
 
 // An offset in the window, a number of bytes and an element's number as one number.
 fn key(offset: u64, size: usize, e: usize) -> u32
@@ -26,59 +19,56 @@ fn key(offset: u64, size: usize, e: usize) -> u32
     (offset % 65536 * 65536) as u32 + ((size - 1) * 256 + e) as u32
 }
 
-// 1 where an element is active.
-fn lane(on: bool) -> usize
-    ensures { result ≡ (if on then 1 else 0) }
-{
-    if on {
-        return 1;
-    }
-    0
-}
-
 // Every element's key is put, and the count goes on by the element's bit: a key of an inactive one is overwritten by the next,
-// or stays behind the last, where nobody reads it.
+// or stays behind the last, where nobody reads it. Inlined, so that the constants of each caller reach the loop.
+#[inline(always)]
 fn gather(
     v: VectorAccess,
-    extension: Extension,
-    step: usize,
-    size: usize,
     offsets: &[u8],
     governing: &[u8],
     base: u64,
     room: u64,
     keys: &mut [u32],
-) -> Gathered
-    requires vector_sound { VectorSound v (length offsets.now) × (extension ≡ v.extension) × (step ≡ v.step) × (size ≡ v.size) }
-    requires governing_len { (length governing.now ≡ length offsets.now / 8) × (v.count ≤ length keys.old) × (window_ok base room ≡ true) }
+) -> Result<usize, Outside>
+    requires { VectorSound v (length offsets.now) × (length governing.now ≡ length offsets.now / 8)
+        × (v.count ≤ length keys.old) × (window_ok base room ≡ true) }
     ensures { (stored : List ℕ) → length stored ≡ length offsets.now
         → GatheredAs base room v.size (vector_elements v offsets.now governing.now stored)
         keys.new result }
 {
-    let limit = window::limit_of(room, size as u64);
-    let count = v.count;
-    let mut n: usize = 0;
-    let mut e: usize = 0;
-    while e < count {
-        let at = e * step;
-        let address = elements::address_from(v.base, extension, v.scale, offsets, at);
-        let offset = std::num::wrapping_sub_u64(address, base);
-        let on = elements::bit(governing, at);
+    let limit = window::limit_of(room, v.size as u64);
+    let mut n = 0;
+    for e in 0..v.count {
+        let address = v.address(offsets, e);
+        let offset = address.wrapping_sub(base);
+        let on = v.is_active(governing, e);
         let past = window::is_past(base, limit, address);
         if on & past {
-            return Gathered::Outside {
+            return Err(Outside {
                 element: e as u64,
                 address,
-            };
+            });
         }
-        keys[n] = key(offset, size, e);
-        n += lane(on);
-        e += 1;
+        keys[n] = key(offset, v.size, e);
+        n += usize::from(on);
     }
-    Gathered::Keys { n }
+    Ok(n)
 }
 
-// The same, with constants for extension and step: the compiler makes a loop of its own for each.
+// The access, with constants for its extension and step.
+fn fixed(v: VectorAccess, extension: Option<Extension>, step: usize) -> VectorAccess
+    requires { (extension ≡ v.extension) × (step ≡ v.step) }
+    ensures { result ≡ v }
+{
+    VectorAccess {
+        extension,
+        step,
+        ..v
+    }
+}
+
+// The active elements' keys are the array's first n entries where all of them lie in the window; else the lowest that doesn't is named.
+// The compiler makes a loop of its own for each extension and step: one loop for all takes up to half as much again.
 pub fn gather_vector(
     v: VectorAccess,
     offsets: &[u8],
@@ -86,94 +76,41 @@ pub fn gather_vector(
     base: u64,
     room: u64,
     keys: &mut [u32],
-) -> Gathered
+) -> Result<usize, Outside>
     requires { VectorSound v (length offsets.now) × (length governing.now ≡ length offsets.now / 8)
         × (v.count ≤ length keys.old) × (window_ok base room ≡ true) }
     ensures { (stored : List ℕ) → length stored ≡ length offsets.now
         → GatheredAs base room v.size (vector_elements v offsets.now governing.now stored)
         keys.new result }
 {
-    let extension = v.extension;
-    let step = v.step;
-    let size = v.size;
-    match extension {
-        Extension::None => {
-            if step == 8 {
-                return gather(
-                    v,
-                    Extension::None,
-                    8,
-                    size,
-                    offsets,
-                    governing,
-                    base,
-                    room,
-                    keys,
-                );
+    match v.extension {
+        None => match v.step {
+            8 => {
+                let v = fixed(v, None, 8);
+                gather(v, offsets, governing, base, room, keys)
             }
-            gather(
-                v,
-                Extension::None,
-                16,
-                size,
-                offsets,
-                governing,
-                base,
-                room,
-                keys,
-            )
-        }
-        Extension::Uxtw => {
-            if step == 8 {
-                return gather(
-                    v,
-                    Extension::Uxtw,
-                    8,
-                    size,
-                    offsets,
-                    governing,
-                    base,
-                    room,
-                    keys,
-                );
+            _ => {
+                let v = fixed(v, None, 16);
+                gather(v, offsets, governing, base, room, keys)
             }
-            gather(
-                v,
-                Extension::Uxtw,
-                4,
-                size,
-                offsets,
-                governing,
-                base,
-                room,
-                keys,
-            )
-        }
-        Extension::Sxtw => {
-            if step == 8 {
-                return gather(
-                    v,
-                    Extension::Sxtw,
-                    8,
-                    size,
-                    offsets,
-                    governing,
-                    base,
-                    room,
-                    keys,
-                );
+        },
+        Some(extension) => match (extension, v.step) {
+            (Extension::Uxtw, 8) => {
+                let v = fixed(v, Some(Extension::Uxtw), 8);
+                gather(v, offsets, governing, base, room, keys)
             }
-            gather(
-                v,
-                Extension::Sxtw,
-                4,
-                size,
-                offsets,
-                governing,
-                base,
-                room,
-                keys,
-            )
-        }
+            (Extension::Uxtw, _) => {
+                let v = fixed(v, Some(Extension::Uxtw), 4);
+                gather(v, offsets, governing, base, room, keys)
+            }
+            (Extension::Sxtw, 8) => {
+                let v = fixed(v, Some(Extension::Sxtw), 8);
+                gather(v, offsets, governing, base, room, keys)
+            }
+            (Extension::Sxtw, _) => {
+                let v = fixed(v, Some(Extension::Sxtw), 4);
+                gather(v, offsets, governing, base, room, keys)
+            }
+        },
     }
 }

@@ -1,4 +1,5 @@
 -- An element of a store as its access's, and the refusals in their order. Assumes nothing.
+use Rattle.std.specs.Prelude.{Option, Some, None, Err}
 use mathlib.Core.Path.{◌≡◌, refl, sym, ap, ap₂, ◌∙◌}
 use mathlib.Core.Bool.{Bool, true, false, not, cond, ◌&&◌, ◌||◌}
 use mathlib.Core.List.{List}
@@ -11,8 +12,6 @@ use lib.ListN.{length}
 use borrow.Author.Tests.{eq-eqb, ne_eqb, lt-ltb, le-ltb}
 use Rattle.encoding.specs.Decoding.{decode_of}
 use Rattle.encoding.specs.Encoding.{class_for, feature_of}
-use Rattle.encoding.specs.declared.Decoded.{Decoded}
-use Rattle.encoding.specs.declared.Decoded.TheVariants.{Known}
 use Rattle.encoding.specs.declared.Feature.TheVariants.{SME2}
 use Rattle.encoding.specs.declared.ScatterFields.{ScatterFields}
 use Rattle.encoding.specs.declared.StridedFields.{StridedFields}
@@ -37,28 +36,41 @@ use Rattle.verdicts.specs.declared.Flags.{Flags}
 use Rattle.checks.proofs.Order.{five-power}
 use Rattle.inspection.specs.Inspection.{counted, inspected_at, inspected_for, is_strided, length_for, inspected_of}
 use Rattle.inspection.specs.Steps.{vector_inspected, strided_inspected}
-use Rattle.inspection.specs.declared.Inspected.TheVariants.{Length, Registers, Past, Element}
+use Rattle.inspection.specs.declared.InspectError.TheVariants.{Length, Registers}
+use Rattle.inspection.specs.declared.Inspected.{Inspected}
 
 -- ---- an element of an access, by its count
 
-past : (e n : ℕ) (active : Bool) (address index size : ℕ) → n ≤ e → Past n ≡ counted e n active address index size
-past e n active address index size h = sym (ap (λ (b : Bool). cond b (Element active address index size n) (Past n)) (le-ltb e n h))
+abbrev pub past-all : ℕ → Inspected
+past-all n = record { count = n; element = None }
+
+abbrev pub one_of : Bool → ℕ → ℕ → ℕ → ℕ → Inspected
+one_of active address index size n =
+    record { count = n; element = Some (record { active = active; address = address; index = index; size = size }) }
+
+-- element e of n, by whether it is one
+abbrev counted_by : ℕ → Bool → ℕ → ℕ → ℕ → Bool → Inspected
+counted_by n active address index size b =
+    record { count = n; element = cond b (Some (record { active = active; address = address; index = index; size = size })) None }
+
+past : (e n : ℕ) (active : Bool) (address index size : ℕ) → n ≤ e → past-all n ≡ counted e n active address index size
+past e n active address index size h = sym (ap (counted_by n active address index size) (le-ltb e n h))
 
 found : (e n : ℕ) (active : Bool) (address index size : ℕ) → e < n
-    → Element active address index size n ≡ counted e n active address index size
-found e n active address index size h = sym (ap (λ (b : Bool). cond b (Element active address index size n) (Past n)) (lt-ltb e n h))
+    → one_of active address index size n ≡ counted e n active address index size
+found e n active address index size h = sym (ap (counted_by n active address index size) (lt-ltb e n h))
 
 module _ (v : VectorAccess) (vb : ℕ) (z p : List ℕ) (e : ℕ) where
-  pub vector-past : v.count ≤ e → Past v.count ≡ vector_inspected v vb z p e
+  pub vector-past : v.count ≤ e → past-all v.count ≡ vector_inspected v vb z p e
   unfolding vector_inspected
   vector-past h = past e v.count _ _ _ _ h
 
   pub vector-found : (o g : List ℕ) (active : Bool) (address : ℕ) → e < v.count → o ≡ register vb z v.offsets
       → g ≡ register (vb / 8) p v.governing → active ≡ vector_active v g e → address ≡ vector_address v o e
-      → Element active address (v.stored * vb + e * v.step) v.size v.count ≡ vector_inspected v vb z p e
+      → one_of active address (v.stored * vb + e * v.step) v.size v.count ≡ vector_inspected v vb z p e
   unfolding vector_inspected
   vector-found o g active address h qo qg r s =
-      ap₂ (λ (b : Bool) (a : ℕ). Element b a (v.stored * vb + e * v.step) v.size v.count)
+      ap₂ (λ (b : Bool) (a : ℕ). one_of b a (v.stored * vb + e * v.step) v.size v.count)
       (r ∙ ap (λ (y : List ℕ). vector_active v y e) qg) (s ∙ ap (λ (y : List ℕ). vector_address v y e) qo)
       ∙ found e v.count _ _ _ _ h
 
@@ -70,15 +82,15 @@ module _ (s : StridedAccess) (vb e : ℕ) where
   abbrev index : ℕ
   index = (s.first + e * s.size / vb * s.stride) * vb + e * s.size % vb
 
-  pub strided-past : count ≤ e → Past count ≡ strided_inspected s vb e
+  pub strided-past : count ≤ e → past-all count ≡ strided_inspected s vb e
   unfolding strided_inspected
   strided-past h = past e count _ _ _ _ h
 
   pub strided-found : (active : Bool) (address : ℕ) → e < count → active ≡ strided_active s (e * s.size)
-      → address ≡ (s.start + e * s.size) % 2 ^ 64 → Element active address index s.size count ≡ strided_inspected s vb e
+      → address ≡ (s.start + e * s.size) % 2 ^ 64 → one_of active address index s.size count ≡ strided_inspected s vb e
   unfolding strided_inspected
   strided-found active address h r q =
-      ap₂ (λ (b : Bool) (a : ℕ). Element b a index s.size count) r q ∙ found e count _ _ _ _ h
+      ap₂ (λ (b : Bool) (a : ℕ). one_of b a index s.size count) r q ∙ found e count _ _ _ _ h
 
 -- ---- a store's element is its access's
 
@@ -123,7 +135,7 @@ module _ (m : Machine) (e : ℕ) where
       let count = ap (λ (y : ℕ). c.nreg * y) many in
       two e n
       (λ l. sym (counted_same e k count (strided-active m f s sixteen e l) (strided-address m f s sixteen e) index))
-      (λ l. sym (past e _ _ _ _ _ (omega (arith, count))) ∙ ap Past (sym count) ∙ past e n _ _ _ _ l)
+      (λ l. sym (past e _ _ _ _ _ (omega (arith, count))) ∙ ap past-all (sym count) ∙ past e n _ _ _ _ l)
     where
       some : (a b : ℕ) → 16 ≤ a * b → 0 < a
       some zero b l = absurd (omega (arith, zero-mul b))
@@ -132,46 +144,46 @@ module _ (m : Machine) (e : ℕ) where
 -- ---- refusals in their order
 
 -- past 1 VB is a length of the machine's, and a strided word's is one of the five
-pub length-for-ok : (f : Flags) (vb : ℕ) (d : Decoded) → length_for f vb d ≡ true → length_ok f.early f.streaming vb ≡ true
+pub length-for-ok : (f : Flags) (vb : ℕ) (d : Option Store) → length_for f vb d ≡ true → length_ok f.early f.streaming vb ≡ true
 unfolding length_for
 length-for-ok f vb d e = (both (length_ok f.early f.streaming vb) (not (is_strided d) || one_of_five vb) e).0
 
-pub length-for-power : (f : Flags) (vb : ℕ) (s : Store) → length_for f vb (Known s) ≡ true → feature_of s ≡ SME2 → 4 * vb ≡ 2 ^ highest vb
+pub length-for-power : (f : Flags) (vb : ℕ) (s : Store) → length_for f vb (Some s) ≡ true → feature_of s ≡ SME2 → 4 * vb ≡ 2 ^ highest vb
 unfolding length_for
 length-for-power f vb (Strided g) e q = five-power vb (both (length_ok f.early f.streaming vb) (one_of_five vb) e).1
 length-for-power f vb (Scatter g) e q = absurdly cc
 length-for-power f vb (Quadword g) e q = absurdly cc
 
 module _ (f : Flags) (m : Machine) (word e : ℕ) where
-  pub inspected-length : (b : Bool) → b ≡ length_for f m.vb (decode_of word) → b ≡ false → Length ≡ inspected_of f m word e
+  pub inspected-length : (b : Bool) → b ≡ length_for f m.vb (decode_of word) → b ≡ false → Err Length ≡ inspected_of f m word e
   unfolding inspected_of
   inspected-length b q t =
       sym
-      (ap (λ (y : Bool). cond y Length (cond (not (registers_ok m)) Registers (inspected_for m (decode_of word) e))) (ap not (sym q ∙ t)))
+      (ap (λ (y : Bool). cond y (Err Length) (cond (not (registers_ok m)) (Err Registers) (inspected_for m (decode_of word) e))) (ap not (sym q ∙ t)))
 
   module _ (b : Bool) (q : b ≡ length_for f m.vb (decode_of word)) (t : b ≡ true) where
-    past-1 : inspected_of f m word e ≡ cond (not (registers_ok m)) Registers (inspected_for m (decode_of word) e)
+    past-1 : inspected_of f m word e ≡ cond (not (registers_ok m)) (Err Registers) (inspected_for m (decode_of word) e)
     unfolding inspected_of
     past-1 =
-        ap (λ (y : Bool). cond y Length (cond (not (registers_ok m)) Registers (inspected_for m (decode_of word) e))) (ap not (sym q ∙ t))
+        ap (λ (y : Bool). cond y (Err Length) (cond (not (registers_ok m)) (Err Registers) (inspected_for m (decode_of word) e))) (ap not (sym q ∙ t))
 
-    by-registers : (d : Bool) → registers_ok m ≡ d → inspected_of f m word e ≡ cond (not d) Registers (inspected_for m (decode_of word) e)
-    by-registers d r = past-1 ∙ ap (λ (y : Bool). cond (not y) Registers (inspected_for m (decode_of word) e)) r
+    by-registers : (d : Bool) → registers_ok m ≡ d → inspected_of f m word e ≡ cond (not d) (Err Registers) (inspected_for m (decode_of word) e)
+    by-registers d r = past-1 ∙ ap (λ (y : Bool). cond (not y) (Err Registers) (inspected_for m (decode_of word) e)) r
 
-    pub inspected-z : (length m.z ≡ 32 * m.vb → ⊥) → Registers ≡ inspected_of f m word e
+    pub inspected-z : (length m.z ≡ 32 * m.vb → ⊥) → Err Registers ≡ inspected_of f m word e
     unfolding registers_ok
     inspected-z h =
         sym (by-registers false (ap (λ (y : Bool). y && eqb (length m.p) (2 * m.vb)) (ne_eqb (length m.z) (32 * m.vb) h)))
 
     module _ (qz : length m.z ≡ 32 * m.vb) where
-      pub inspected-p : (length m.p ≡ 2 * m.vb → ⊥) → Registers ≡ inspected_of f m word e
+      pub inspected-p : (length m.p ≡ 2 * m.vb → ⊥) → Err Registers ≡ inspected_of f m word e
       unfolding registers_ok
       inspected-p h =
           sym (by-registers false (ap₂ ◌&&◌ (eq-eqb (length m.z) (32 * m.vb) qz) (ne_eqb (length m.p) (2 * m.vb) h)))
 
       module _ (qp : length m.p ≡ 2 * m.vb) where
-        pub inspected-decoded : (d : Decoded) → d ≡ decode_of word → inspected_for m d e ≡ inspected_of f m word e
+        pub inspected-decoded : (d : Option Store) → d ≡ decode_of word → inspected_for m d e ≡ inspected_of f m word e
         unfolding registers_ok
         inspected-decoded d r =
-            ap (λ (y : Decoded). inspected_for m y e) r
+            ap (λ (y : Option Store). inspected_for m y e) r
             ∙ sym (by-registers true (ap₂ ◌&&◌ (eq-eqb (length m.z) (32 * m.vb) qz) (eq-eqb (length m.p) (2 * m.vb) qp)))

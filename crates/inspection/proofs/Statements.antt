@@ -1,4 +1,5 @@
 -- The proof of specs/Statements.antt, of exactly the type that stands there. Assumes nothing.
+use Rattle.std.specs.Prelude.{Option, Some, None, Result, Ok, Err}
 use mathlib.Core.Path.{◌≡◌, refl, sym, ap, ap₂, ◌∙◌}
 use mathlib.Core.Bool.{Bool, true, false, not, cond, ◌&&◌, ◌||◌}
 use mathlib.Core.Logic.{◌⊎◌, inl, inr}
@@ -9,8 +10,6 @@ use lib.ListN.{replicate}
 use borrow.Author.Tests.{lt-ltb, le-ltb}
 use Rattle.encoding.specs.Decoding.{decode_of}
 use Rattle.encoding.specs.Encoding.{class_for}
-use Rattle.encoding.specs.declared.Decoded.{Decoded}
-use Rattle.encoding.specs.declared.Decoded.TheVariants.{Known, Undefined}
 use Rattle.encoding.specs.declared.Store.{Store}
 use Rattle.elements.specs.Machine.{Machine}
 use Rattle.elements.specs.Stores.{size_of, count_of}
@@ -21,8 +20,9 @@ use Rattle.verdicts.specs.declared.Flags.{Flags}
 use Rattle.inspection.specs.Inspection.{first_byte, is_strided, length_for, inspected_at, inspected_for, inspected_of}
 use Rattle.inspection.specs.Inspection.{inspected_number, bit_of, inspected_answers}
 use Rattle.inspection.specs.Statements.{Answers, Past2, InspectsInNumbers}
+use Rattle.inspection.specs.declared.InspectError.{InspectError}
+use Rattle.inspection.specs.declared.InspectError.TheVariants.{Length, Registers}
 use Rattle.inspection.specs.declared.Inspected.{Inspected}
-use Rattle.inspection.specs.declared.Inspected.TheVariants.{Length, Registers, Past, Element}
 
 and-false : (b : Bool) → b && false ≡ false
 and-false true = refl
@@ -36,16 +36,16 @@ either true false o e = absurdly cc
 module _ (f : Flags) (m : Machine) (word e : ℕ) where
   -- what is inspected, by the two tests
   tested : (a b : Bool) → length_for f m.vb (decode_of word) ≡ a → registers_ok m ≡ b
-      → inspected_of f m word e ≡ cond (not a) Length (cond (not b) Registers (inspected_for m (decode_of word) e))
+      → inspected_of f m word e ≡ cond (not a) (Err Length) (cond (not b) (Err Registers) (inspected_for m (decode_of word) e))
   unfolding inspected_of
   tested a b p q =
-      ap₂ (λ (x y : Bool). cond (not x) Length (cond (not y) Registers (inspected_for m (decode_of word) e))) p q
+      ap₂ (λ (x y : Bool). cond (not x) (Err Length) (cond (not y) (Err Registers) (inspected_for m (decode_of word) e))) p q
 
-  answered : (i : Inspected) → inspected_of f m word e ≡ i → Answers f m word e (inspected_number i) (inspected_answers i)
+  answered : (i : Result Inspected InspectError) → inspected_of f m word e ≡ i → Answers f m word e (inspected_number i) (inspected_answers i)
   answered i q = (ap inspected_number q, ap inspected_answers q)
 
   refused-length : length_for f m.vb (decode_of word) ≡ false → Answers f m word e 1 (replicate 5 0)
-  refused-length a = answered Length (tested false (registers_ok m) a refl)
+  refused-length a = answered (Err Length) (tested false (registers_ok m) a refl)
 
   -- 1's two causes
   by_length : length_ok f.early f.streaming m.vb ≡ false → length_for f m.vb (decode_of word) ≡ false
@@ -71,33 +71,34 @@ module _ (f : Flags) (m : Machine) (word e : ℕ) where
   not-1 true false p q n = absurdly (cc (sym (ap inspected_number (tested true false p q)) ∙ n))
   not-1 true true p q n = absurd (other (decode_of word) (sym (ap inspected_number (tested true true p q)) ∙ n))
     where
-      other : (d : Decoded) → inspected_number (inspected_for m d e) ≡ 1 → ⊥
-      other Undefined k = absurdly cc
-      other (Known s) k = by (ltb e (count_of m s)) k
-        where
-          by : (t : Bool)
-              → inspected_number
-              (cond t (Element (active_at m s e) (element_at m s e).address (first_byte m s e) (size_of (class_for s)) (count_of m s))
-              (Past (count_of m s)))
-              ≡ 1
-              → ⊥
-          by true k = absurdly cc
-          by false k = absurdly cc
+      other : (d : Option Store) → inspected_number (inspected_for m d e) ≡ 1 → ⊥
+      other None k = absurdly cc
+      other (Some s) k = absurdly cc
 
-  module _ (s : Store) (p : Past2 f m word) (d : decode_of word ≡ Known s) where
+  module _ (s : Store) (p : Past2 f m word) (d : decode_of word ≡ Some s) where
+    -- the element, by whether the store has it
+    abbrev by : Bool → Inspected
+    by t =
+        record {
+          count = count_of m s;
+          element = cond t
+              (Some
+              (record {
+                active = active_at m s e;
+                address = (element_at m s e).address;
+                index = first_byte m s e;
+                size = size_of (class_for s);
+              }))
+              None;
+        }
+
     found : (t : Bool) → ltb e (count_of m s) ≡ t
-        → inspected_of f m word e
-        ≡ cond t (Element (active_at m s e) (element_at m s e).address (first_byte m s e) (size_of (class_for s)) (count_of m s))
-        (Past (count_of m s))
+        → inspected_of f m word e ≡ Ok (by t)
     unfolding inspected_at
     found t q =
         tested true true p.0 p.1
-        ∙ ap (λ (y : Decoded). inspected_for m y e) d
-        ∙ ap
-        (λ (t : Bool).
-        cond t (Element (active_at m s e) (element_at m s e).address (first_byte m s e) (size_of (class_for s)) (count_of m s))
-        (Past (count_of m s)))
-        q
+        ∙ ap (λ (y : Option Store). inspected_for m y e) d
+        ∙ ap (λ (t : Bool). Ok (by t)) q
 
 bit_is : (b : Bool) → bit_of b ≡ cond b 1 0
 bit_is true = refl
@@ -111,7 +112,7 @@ inspects-in-numbers =
       length_only = λ f m word e n. causes f m word e (not-1 f m word e _ _ refl refl n);
       registers = λ f m word e a b. answered f m word e _ (tested f m word e true false a b);
       undefined = λ f m word e p d.
-          answered f m word e _ (tested f m word e true true p.0 p.1 ∙ ap (λ (y : Decoded). inspected_for m y e) d);
+          answered f m word e _ (tested f m word e true true p.0 p.1 ∙ ap (λ (y : Option Store). inspected_for m y e) d);
       element = λ f m word e s p d h.
           let r = answered f m word e _ (found f m word e s p d true (lt-ltb e (count_of m s) h)) in (
             r.0,

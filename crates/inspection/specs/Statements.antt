@@ -1,9 +1,8 @@
 -- What is promised of one element in numbers, from the definitions of a store's elements. Its proof is in proofs/Statements.antt.
 -- Assumes nothing.
-use Rattle.std.specs.Prelude.{ℕ, ◌≤◌, ◌<◌, true, false, cond, List, [], ◌∷◌, ◌⊎◌, ◌≡◌, replicate}
+use Rattle.std.specs.Prelude.{ℕ, ◌≤◌, ◌<◌, true, false, cond, List, [], ◌∷◌, ◌⊎◌, ◌≡◌, replicate, Some, None}
 use Rattle.encoding.specs.Decoding.{decode_of}
 use Rattle.encoding.specs.Encoding.{class_for}
-use Rattle.encoding.specs.declared.Decoded.TheVariants.{Known, Undefined}
 use Rattle.encoding.specs.declared.Store.{Store}
 use Rattle.encoding.specs.declared.Store.TheVariants.{Strided}
 use Rattle.encoding.specs.declared.StridedFields.{StridedFields}
@@ -32,15 +31,15 @@ pub record InspectsInNumbers : Type 0 where
       → Answers f m word e 1 (replicate 5 0)
   -- of a strided word at every VB that is none of the five, whatever the flags
   pub strided_length : (f : Flags) (m : Machine) (word e : ℕ) (g : StridedFields) → one_of_five m.vb ≡ false
-      → decode_of word ≡ Known (Strided g) → Answers f m word e 1 (replicate 5 0)
+      → decode_of word ≡ Some (Strided g) → Answers f m word e 1 (replicate 5 0)
   -- and then alone
   pub length_only : (f : Flags) (m : Machine) (word e : ℕ) → inspected_number (inspected_of f m word e) ≡ 1
       → (length_ok f.early f.streaming m.vb ≡ false) ⊎ ((is_strided (decode_of word) ≡ true) × (one_of_five m.vb ≡ false))
   pub registers : (f : Flags) (m : Machine) (word e : ℕ) → Past1 f m word → registers_ok m ≡ false → Answers f m word e 2 (replicate 5 0)
-  pub undefined : (f : Flags) (m : Machine) (word e : ℕ) → Past2 f m word → decode_of word ≡ Undefined
+  pub undefined : (f : Flags) (m : Machine) (word e : ℕ) → Past2 f m word → decode_of word ≡ None
       → Answers f m word e 4 (replicate 5 0)
-  pub element : (f : Flags) (m : Machine) (word e : ℕ) (s : Store) → Past2 f m word → decode_of word ≡ Known s → e < count_of m s
+  pub element : (f : Flags) (m : Machine) (word e : ℕ) (s : Store) → Past2 f m word → decode_of word ≡ Some s → e < count_of m s
       → Answers f m word e 0
       (cond (active_at m s e) 1 0 ∷ (element_at m s e).address ∷ first_byte m s e ∷ size_of (class_for s) ∷ count_of m s ∷ [])
-  pub past : (f : Flags) (m : Machine) (word e : ℕ) (s : Store) → Past2 f m word → decode_of word ≡ Known s
+  pub past : (f : Flags) (m : Machine) (word e : ℕ) (s : Store) → Past2 f m word → decode_of word ≡ Some s
       → count_of m s ≤ e → Answers f m word e 0 (0 ∷ 0 ∷ 0 ∷ 0 ∷ count_of m s ∷ [])

@@ -6,7 +6,7 @@ ghost use Rattle.verdicts.specs.Verdicts.{refusal_number, number, detail};
 ghost use Rattle.outcomes.specs.Storing.{numbers};
 ghost use Rattle.numbers.specs.Flags.{flags_of};
 
-use verdicts::{Flags, Refusal, Verdict};
+use verdicts::{Done, Flags, Refusal, Verdict};
 
 pub fn flags_of(n: u64) -> Flags
     ensures { result ≡ flags_of n }
@@ -34,14 +34,8 @@ fn refusal_number(r: Refusal) -> u64
         Refusal::Undefined => 4,
         Refusal::Illegal => 5,
         Refusal::Stack => 6,
-        Refusal::Fault {
-            element: _,
-            address: _,
-        } => 7,
-        Refusal::Overlap {
-            element: _,
-            address: _,
-        } => 12,
+        Refusal::Fault { .. } => 7,
+        Refusal::Overlap { .. } => 12,
         Refusal::NoRoom => 8,
     }
 }
@@ -51,15 +45,9 @@ fn detail_of(r: Refusal) -> [u64; 2]
     ensures { result ≡ detail r }
 {
     match r {
-        Refusal::Length => [0, 0],
-        Refusal::Registers => [0, 0],
-        Refusal::Window => [0, 0],
-        Refusal::Undefined => [0, 0],
-        Refusal::Illegal => [0, 0],
-        Refusal::Stack => [0, 0],
         Refusal::Fault { element, address } => [element, address],
         Refusal::Overlap { element, address } => [element, address],
-        Refusal::NoRoom => [0, 0],
+        _ => [0, 0],
     }
 }
 
@@ -70,18 +58,20 @@ pub fn answered(v: Verdict, answer: &mut [u64; 6]) -> u64
     ensures answer_after { answer.new ≡ numbers v }
 {
     match v {
-        Verdict::Done {
-            elements,
-            bytes,
-            length,
-            steps,
-        } => {
+        Ok(
+            Done {
+                elements,
+                bytes,
+                length,
+                steps,
+            },
+        ) => {
             *answer = [0, 0, elements, bytes, length, steps];
             0
         }
-        Verdict::Refused { refusal } => {
-            let detail = detail_of(refusal);
-            *answer = [detail[0], detail[1], 0, 0, 0, 0];
+        Err(refusal) => {
+            let [element, address] = detail_of(refusal);
+            *answer = [element, address, 0, 0, 0, 0];
             refusal_number(refusal)
         }
     }

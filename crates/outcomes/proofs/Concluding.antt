@@ -1,4 +1,5 @@
 -- From verdict 7 on: what is answered, and what is left of memory and buffer. Assumes nothing.
+use Rattle.std.specs.Prelude.{Err}
 use mathlib.Core.Path.{◌≡◌, refl, sym, ap, ap₂, ◌∙◌, subst}
 use mathlib.Core.Bool.{Bool, true, false, cond, ◌&&◌}
 use mathlib.Core.List.{List, [], ◌∷◌, ◌++◌}
@@ -12,13 +13,11 @@ use Rattle.endian.proofs.Order.{absurdly}
 use Rattle.window.proofs.Windows.{byte-is}
 use Rattle.writes.specs.Elements.{Element, written, steps_of, first_overlap}
 use Rattle.elements.specs.Machine.{Machine}
-use Rattle.verdicts.specs.Verdicts.{patch_of, first_outside, found, fault_of, overlap_of, done_of, verdict_of}
+use Rattle.verdicts.specs.Verdicts.{patch_of, first_outside, found, fault_of, overlap_of, done_of, verdict_of, Verdict, done}
 use Rattle.checks.specs.Checking.{concluded, Passed}
 use Rattle.verdicts.specs.declared.Flags.{Flags}
 use Rattle.verdicts.specs.declared.Refusal.{Refusal}
 use Rattle.verdicts.specs.declared.Refusal.TheVariants.{Fault, Overlap, NoRoom}
-use Rattle.verdicts.specs.declared.Verdict.{Verdict}
-use Rattle.verdicts.specs.declared.Verdict.TheVariants.{Done, Refused}
 use Rattle.outcomes.specs.Storing.{memory_after, buffer_after, Stored}
 use Rattle.outcomes.specs.Steps.{StoredUnder, StoredOf}
 
@@ -38,7 +37,7 @@ is-outside W L (y ∷ es) x q = go (in_window W L y.address (length y.bytes)) re
 module _ (W size : ℕ) (mem buffer : List ℕ) (es : List Element) where
   -- by what the search found and whether there is room
   abbrev by : Option Element → Bool → Verdict
-  by o short = cond (found o) (Refused (fault_of W (length mem) o)) (cond short (Refused NoRoom) (done_of es size))
+  by o short = cond (found o) (Err (fault_of W (length mem) o)) (cond short (Err NoRoom) (done_of es size))
 
   abbrev short : Bool
   short = ltb (length buffer) (length (patch_of es))
@@ -46,11 +45,11 @@ module _ (W size : ℕ) (mem buffer : List ℕ) (es : List Element) where
   -- an element of a 64-bit address, named by the first of its bytes that isn't in the window
   pub stored-fault : window_ok W (length mem) ≡ true → (e a : ℕ) (x : Element) → first_outside W (length mem) es ≡ some x → e ≡ x.number
       → x.address < 2 ^ 64 → a ≡ cond (in_window W (length mem) x.address 1) ((W + length mem) % 2 ^ 64) x.address
-      → StoredOf W size mem buffer es (Refused (Fault e a)) mem buffer
+      → StoredOf W size mem buffer es (Err (Fault e a)) mem buffer
   stored-fault ok e a x q en small ea =
       let b = ea ∙ byte-is W (length mem) x.address (length x.bytes) ok small (is-outside W (length mem) es x q) in
       record {
-        answer = ap Refused (ap₂ Fault en b) ∙ sym (ap (λ (o : Option Element). by o short) q);
+        answer = ap Err (ap₂ Fault en b) ∙ sym (ap (λ (o : Option Element). by o short) q);
         memory = refl;
         patch = refl;
       }
@@ -59,7 +58,7 @@ module _ (W size : ℕ) (mem buffer : List ℕ) (es : List Element) where
     past-7 : concluded false W (length mem) (length buffer) size es ≡ by none short
     past-7 = ap (λ (o : Option Element). by o short) q
 
-    pub stored_short : length buffer < length (patch_of es) → StoredOf W size mem buffer es (Refused NoRoom) mem buffer
+    pub stored_short : length buffer < length (patch_of es) → StoredOf W size mem buffer es (Err NoRoom) mem buffer
     stored_short h =
         record {
           answer = sym (past-7 ∙ ap (by none) (lt-ltb (length buffer) (length (patch_of es)) h));
@@ -70,10 +69,10 @@ module _ (W size : ℕ) (mem buffer : List ℕ) (es : List Element) where
     pub stored-done : (n b k s : ℕ) (mem' buffer' : List ℕ) → n ≡ length es → b ≡ length es * size → k ≡ length (patch_of es)
         → s ≡ steps_of es → length (patch_of es) ≤ length buffer → mem' ≡ written W mem es
         → buffer' ≡ patch_of es ++ drop (length (patch_of es)) buffer
-        → StoredOf W size mem buffer es (Done n b k s) mem' buffer'
+        → StoredOf W size mem buffer es (done n b k s) mem' buffer'
     stored-done n b k s mem' buffer' en eb ek es' h em eo =
         record {
-          answer = (λ i. Done (en i) (eb i) (ek i) (es' i))
+          answer = (λ i. done (en i) (eb i) (ek i) (es' i))
               ∙ sym (past-7 ∙ ap (by none) (le-ltb (length buffer) (length (patch_of es)) h));
           memory = em;
           patch = eo;
@@ -84,15 +83,15 @@ module _ (W size : ℕ) (mem buffer : List ℕ) (es : List Element) where
 -- by what the two searches found
 abbrev among : ℕ → ℕ → List ℕ → List ℕ → List Element → Bool → Option Element → Option Element → Verdict
 among W size mem buffer es t o p =
-    cond (found o) (Refused (fault_of W (length mem) o))
-    (cond (t && found p) (Refused (overlap_of p)) (cond (ltb (length buffer) (length (patch_of es))) (Refused NoRoom) (done_of es size)))
+    cond (found o) (Err (fault_of W (length mem) o))
+    (cond (t && found p) (Err (overlap_of p)) (cond (ltb (length buffer) (length (patch_of es))) (Err NoRoom) (done_of es size)))
 
 module _ {W size : ℕ} {mem buffer : List ℕ} {es : List Element} where
   -- a fault comes first, and where no two elements share a byte, or strict is off, 12 isn't given
   module _ (strict : Bool) {v : Verdict} {mem' buffer' : List ℕ} (s : StoredOf W size mem buffer es v mem' buffer') where
     pub under-fault : (x : Element) → first_outside W (length mem) es ≡ some x → StoredUnder strict W size mem buffer es v mem' buffer'
     under-fault x q =
-        let f : (t : Bool) → concluded t W (length mem) (length buffer) size es ≡ Refused (fault_of W (length mem) (some x)) =
+        let f : (t : Bool) → concluded t W (length mem) (length buffer) size es ≡ Err (fault_of W (length mem) (some x)) =
         λ t. ap (λ (o : Option Element). among W size mem buffer es t o (first_overlap es)) q in
         record { answer = s.answer ∙ f false ∙ sym (f strict); memory = s.memory; patch = s.patch }
 
@@ -117,10 +116,10 @@ module _ {W size : ℕ} {mem buffer : List ℕ} {es : List Element} where
   -- 12: all lie in the window, and strict is on
   pub stored-overlap : (strict : Bool) → strict ≡ true → first_outside W (length mem) es ≡ none → (e a : ℕ) (x : Element)
       → first_overlap es ≡ some x → e ≡ x.number → a ≡ x.address
-      → StoredUnder strict W size mem buffer es (Refused (Overlap e a)) mem buffer
+      → StoredUnder strict W size mem buffer es (Err (Overlap e a)) mem buffer
   stored-overlap strict t n e a x q en ea =
       record {
-        answer = ap Refused (ap₂ Overlap en ea) ∙ sym (λ i. among W size mem buffer es (t i) (n i) (q i));
+        answer = ap Err (ap₂ Overlap en ea) ∙ sym (λ i. among W size mem buffer es (t i) (n i) (q i));
         memory = refl;
         patch = refl;
       }
@@ -134,8 +133,8 @@ stored-listed {t} {W} {size} {mem} {buffer} {es} {es'} {v} {mem'} {buffer'} e s 
 -- ---- the whole call
 
 module _ (f : Flags) (m : Machine) (W : ℕ) (mem : List ℕ) (word : ℕ) (buffer : List ℕ) where
-  pub stored_refused : (r : Refusal) → ((room : ℕ) → verdict_of f m W (length mem) word room ≡ Refused r)
-      → Stored f m W mem word buffer (Refused r) mem buffer
+  pub stored_refused : (r : Refusal) → ((room : ℕ) → verdict_of f m W (length mem) word room ≡ Err r)
+      → Stored f m W mem word buffer (Err r) mem buffer
   stored_refused r h = record { answer = sym (h (length buffer)); memory = refl; patch = refl }
 
   pub stored-passed : (es : List Element) (size : ℕ) (v : Verdict) (mem' buffer' : List ℕ) → Passed f m W (length mem) word es size

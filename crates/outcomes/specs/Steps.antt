@@ -1,9 +1,8 @@
 -- A store from verdict 7 on. For the contracts of the code's own functions. Assumes nothing.
 use Rattle.std.specs.Prelude.{ℕ, Bool, false, List, ◌≡◌, length}
 use Rattle.writes.specs.Elements.{Element}
-use Rattle.verdicts.specs.Verdicts.{patch_of}
+use Rattle.verdicts.specs.Verdicts.{patch_of, Verdict}
 use Rattle.checks.specs.Checking.{concluded}
-use Rattle.verdicts.specs.declared.Verdict.{Verdict}
 use Rattle.outcomes.specs.Storing.{memory_after, buffer_after}
 
 -- what is answered of these elements, of `size` bytes each, strict or not, in the window of `mem` at W with a patch buffer, and what is

@@ -7,13 +7,15 @@ use mathlib.Core.Logic.{inl, inr}
 use mathlib.Core.Option.{Option, none, some}
 use native.Mathlib.Omega.{arith}
 use lib.ListN.{length}
+use Rattle.std.specs.Prelude.{is_some, Some, None}
+use Rattle.std.specs.Prelude.{Option as RustOption}
 use Rattle.endian.proofs.Order.{two, absurdly}
 use Rattle.writes.specs.Elements.{Element, share_byte, shares_with, overlap_from, first_overlap}
 use Rattle.writes.proofs.Sharing.{apart-false, meeting-true}
 use Rattle.ordering.specs.Keys.{number_of, sorted}
 use Rattle.stretches.specs.Stretches.{start_of, end_of, Seen, key_of, keys_of, joined}
 use Rattle.stretches.proofs.Keying.{key-start, key-bytes, key-number, keys-sized, length-keys, stretches-rising}
-use Rattle.overlapping.specs.Overlaps.{parted, meets, meets_any, meeting_from, first_meeting, is_found}
+use Rattle.overlapping.specs.Overlaps.{parted, meets, meets_any, meeting_from, first_meeting}
 use Rattle.overlapping.proofs.Meeting.{meets-yes, meets-left, meets-right, parted-keys}
 
 module _ (W L size : ℕ) (o : 1 ≤ size) (w : size ≤ 256) where
@@ -66,20 +68,20 @@ module _ (W L size : ℕ) (o : 1 ≤ size) (w : size ≤ 256) where
 
   -- ---- the first that shares a byte with a lower one
 
-  abbrev keyed : Option Element → Option ℕ
-  keyed none = none
-  keyed (some x) = some (key x)
+  abbrev keyed : Option Element → RustOption ℕ
+  keyed none = None
+  keyed (some x) = Some (key x)
 
   meeting-keyed : (lower es : List Element) → AllLie lower → AllLie es
       → meeting_from (keys_of W size lower) (keys_of W size es) ≡ keyed (overlap_from lower es)
   unfolding keys_of meeting_from overlap_from
   meeting-keyed lower [] k l = refl
   meeting-keyed lower (x ∷ xs) k l =
-      ap (λ (b : Bool). cond b (some (key x)) (meeting_from (key x ∷ keys_of W size lower) (keys_of W size xs))) (any-shares x lower l.0 k)
+      ap (λ (b : Bool). cond b (Some (key x)) (meeting_from (key x ∷ keys_of W size lower) (keys_of W size xs))) (any-shares x lower l.0 k)
       ∙ go (shares_with x lower) (meeting-keyed (x ∷ lower) xs (l.0, k) l.1)
     where
       go : (b : Bool) → meeting_from (key x ∷ keys_of W size lower) (keys_of W size xs) ≡ keyed (overlap_from (x ∷ lower) xs)
-          → cond b (some (key x)) (meeting_from (key x ∷ keys_of W size lower) (keys_of W size xs))
+          → cond b (Some (key x)) (meeting_from (key x ∷ keys_of W size lower) (keys_of W size xs))
           ≡ keyed (cond b (some x) (overlap_from (x ∷ lower) xs))
       go true e = refl
       go false e = e
@@ -101,20 +103,20 @@ module _ (W L size : ℕ) (o : 1 ≤ size) (w : size ≤ 256) where
     first-keyed = meeting-keyed [] es tt (seen-lie 0 es s)
 
     -- no key: no element
-    pub none_shared : is_found (first_meeting (keys_of W size es)) ≡ false → first_overlap es ≡ none
-    none_shared q = go (first_overlap es) (ap is_found (sym first-keyed) ∙ q)
+    pub none_shared : is_some (first_meeting (keys_of W size es)) ≡ false → first_overlap es ≡ none
+    none_shared q = go (first_overlap es) (ap is_some (sym first-keyed) ∙ q)
       where
-        go : (p : Option Element) → is_found (keyed p) ≡ false → p ≡ none
+        go : (p : Option Element) → is_some (keyed p) ≡ false → p ≡ none
         go none e = refl
         go (some x) e = absurdly cc
 
     -- and a key names its element
-    pub key-names : (k : ℕ) → first_meeting (keys_of W size es) ≡ some k
+    pub key-names : (k : ℕ) → first_meeting (keys_of W size es) ≡ Some k
         → (x : Element) × (first_overlap es ≡ some x) × (number_of k ≡ x.number) × (W + start_of k ≡ x.address)
         × (x.address + size ≤ W + L)
     key-names k q = go (first_overlap es) refl (sym first-keyed ∙ q)
       where
-        go : (p : Option Element) → first_overlap es ≡ p → keyed p ≡ some k
+        go : (p : Option Element) → first_overlap es ≡ p → keyed p ≡ Some k
             → (x : Element) × (first_overlap es ≡ some x) × (number_of k ≡ x.number) × (W + start_of k ≡ x.address)
             × (x.address + size ≤ W + L)
         go none e r = absurdly cc
@@ -131,7 +133,7 @@ module _ (W L size : ℕ) (o : 1 ≤ size) (w : size ≤ 256) where
 
     -- what a pass over the stretches in order tells
     pub stretches-shared : length es * size ≤ 256
-        → not (parted 0 (sorted (joined size (keys_of W size es)))) ≡ is_found (first_meeting (keys_of W size es))
+        → not (parted 0 (sorted (joined size (keys_of W size es)))) ≡ is_some (first_meeting (keys_of W size es))
     stretches-shared few =
         parted-keys L size (keys_of W size es) (keys-sized W L size o w 0 es s)
         (subst (λ (z : ℕ). z * size ≤ 256) (sym (length-keys W L size o w es)) few) (stretches-rising W L size o w es s few)

@@ -3,17 +3,16 @@ use mathlib.Core.Path.{◌≡◌, refl, sym, ap, ap₂, ◌∙◌}
 use Prim.Native.Nat.{ℕ, ◌+◌, ◌*◌, ◌≤◌, ◌<◌}
 use mathlib.Core.Bool.{Bool, true, false, not, cond, ◌||◌}
 use mathlib.Core.List.{List, [], ◌∷◌}
-use mathlib.Core.Option.{some}
 use native.Mathlib.Omega.{arith}
 use lib.ListN.{length}
 use borrow.Author.Tests.{lt-ltb, le-ltb}
+use Rattle.std.specs.Prelude.{is_some, Some}
 use Rattle.endian.proofs.Order.{two}
 use Rattle.ordering.specs.Keys.{filed, sorted, Each}
 use Rattle.ordering.proofs.Sorting.{filed-past, filed-here}
 use Rattle.stretches.specs.Stretches.{start_of, bytes_of, end_of, joined_from, joined, Rising}
-use Rattle.stretches.proofs.Joining.{grown-start, grown-bytes, joined-on, joined-new}
-use Rattle.stretches.proofs.Joined.{same_or, Open, open-first, open-on, open-new, small}
-use Rattle.overlapping.specs.Overlaps.{parted, meets, meets_any, meeting_from, first_meeting, is_found}
+use Rattle.stretches.proofs.Joining.{grown-start, grown-bytes, joined-on, joined-new, same_or, Open, open-first, open-on, open-new, small}
+use Rattle.overlapping.specs.Overlaps.{parted, meets, meets_any, meeting_from, first_meeting}
 
 -- two of the stretches meet
 unfoldable pub clash : List ℕ → Bool
@@ -235,19 +234,19 @@ met-more x lower (k ∷ K) =
     ap₂ ◌||◌ (ap (λ (t : Bool). t || meets_any c d lower) (meets-swap c d a b)) (met-more x lower K)
     ∙ exchange (meets a b c d) (meets_any c d lower) (meets_any a b K) (met_by lower K)
 
-found_from : (lower K : List ℕ) → is_found (meeting_from lower K) ≡ met_by lower K || clash K
+found_from : (lower K : List ℕ) → is_some (meeting_from lower K) ≡ met_by lower K || clash K
 unfolding meeting_from met_by clash
 found_from lower [] = refl
 found_from lower (k ∷ K) =
     let a : ℕ = start_of k in
     let b : ℕ = end_of k in
-    go (meets_any a b lower) (is_found (meeting_from (k ∷ lower) K))
+    go (meets_any a b lower) (is_some (meeting_from (k ∷ lower) K))
     ∙ ap (λ (t : Bool). meets_any a b lower || t)
     (found_from (k ∷ lower) K ∙ ap (λ (t : Bool). t || clash K) (met-more k lower K ∙ or-flip (meets_any a b K) (met_by lower K))
     ∙ or_assoc (met_by lower K) (meets_any a b K) (clash K))
     ∙ sym (or_assoc (meets_any a b lower) (met_by lower K) (meets_any a b K || clash K))
   where
-    go : (t u : Bool) → is_found (cond t (some k) (meeting_from (k ∷ lower) K)) ≡ t || is_found (meeting_from (k ∷ lower) K)
+    go : (t u : Bool) → is_some (cond t (Some k) (meeting_from (k ∷ lower) K)) ≡ t || is_some (meeting_from (k ∷ lower) K)
     go true u = refl
     go false u = refl
 
@@ -257,11 +256,11 @@ found_from lower (k ∷ K) =
     or-flip false true = refl
     or-flip false false = refl
 
-pub found-clash : (K : List ℕ) → is_found (first_meeting K) ≡ clash K
+pub found-clash : (K : List ℕ) → is_some (first_meeting K) ≡ clash K
 found-clash K = found_from [] K ∙ ap (λ (t : Bool). t || clash K) (met-none K)
 
 -- what a pass over the stretches in order tells of the keys
 pub parted-keys : (L size : ℕ) (K : List ℕ) → Each (λ k. bytes_of k ≡ size) K → length K * size ≤ 256 → Rising L 0 (sorted (joined size K))
-    → not (parted 0 (sorted (joined size K))) ≡ is_found (first_meeting K)
+    → not (parted 0 (sorted (joined size K))) ≡ is_some (first_meeting K)
 parted-keys L size K e few r =
     parted-clash L (sorted (joined size K)) r ∙ clash-sorted (joined size K) ∙ clash-joined size K e few ∙ sym (found-clash K)

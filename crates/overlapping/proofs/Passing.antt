@@ -1,137 +1,92 @@
 -- The loops over stretches and keys. Assumes nothing.
-use mathlib.Core.Path.{◌≡◌, refl, sym, ap, ◌∙◌, subst}
-use Prim.Native.Nat.{ℕ, suc, ◌+◌, ◌-◌, ◌≤◌, ◌<◌}
-use mathlib.Core.Bool.{Bool, true, false, not, cond, ◌||◌}
-use mathlib.Core.List.{List, [], ◌∷◌}
-use mathlib.Core.Option.{none, some}
+use mathlib.Core.Path.{◌≡◌, refl, sym, ap, ◌∙◌}
+use Prim.Native.Nat.{ℕ, suc, ◌+◌, ◌/◌, ◌≤◌, ◌<◌}
+use mathlib.Core.Bool.{Bool, true, false, cond, ◌||◌}
+use mathlib.Core.List.{List, [], ◌∷◌, reverse}
 use native.Mathlib.Omega.{arith}
-use native.Mathlib.Numerals.{add-one}
-use lib.Dec.{ltb}
-use lib.ListN.{get_or}
 use borrow.Author.Tests.{lt-ltb, le-ltb}
-use Rattle.endian.proofs.Order.{two, absurdly}
-use Rattle.ordering.specs.Keys.{entries}
-use Rattle.ordering.proofs.Sorting.{entries-cons, entries_none, entries-all}
+use lib.ListN.{length, get_or, take, drop}
+use Rattle.std.specs.Prelude.{Some, None, SomeIndex}
+use Rattle.std.proofs.lemmas.List.{take_more, drop_more, reverse-append}
+use Rattle.std.proofs.lemmas.List.Folds.{list_any_at}
+use Rattle.std.proofs.lemmas.List.Sorted.{list_any-IsPermutation, IsPermutation-reverse}
+use Rattle.endian.proofs.Order.{absurdly}
 use Rattle.stretches.specs.Stretches.{start_of, end_of}
-use Rattle.overlapping.specs.Overlaps.{parted, meets, meets_any, meeting_from, first_meeting, is_found, backwards}
+use Rattle.overlapping.specs.Overlaps.{parted, meets, meets_any, meeting_from}
 
--- ---- `some_overlap`
+-- ---- stretches: those of `rest` are left, and have to start from `end` on
 
-pub record Spacing (S : List ℕ) (m end t : ℕ) : Type 0 where
-  pub most : t ≤ m
-  pub small : end < 65793
-  pub same : parted end (entries S t (m - t)) ≡ parted 0 (entries S 0 m)
-
-module _ (S : List ℕ) (m : ℕ) where
-  pub spacing-first : Spacing S m 0 0
-  spacing-first = record { most = omega arith; small = omega arith; same = ap (parted 0) (entries-all S m) }
-
-  module _ (end t s : ℕ) (h : t < m) (g : Spacing S m end t) (q : s ≡ start_of (get_or S t 0)) where
-    -- what stretches behind this one answer, where it starts before `end` or not
-    abbrev by : Bool → Bool
-    by b = cond b false (parted (end_of (get_or S t 0)) (entries S (t + 1) (m - (t + 1))))
-
-    here : by (ltb (start_of (get_or S t 0)) end) ≡ parted 0 (entries S 0 m)
-    unfolding parted
-    here = ap (parted end) (sym (entries-cons S m t h)) ∙ g.same
-
-    pub spacing-next : end ≤ s → (e : ℕ) → (e ≡ end_of (get_or S t 0)) × (e < 65793) → Spacing S m e (t + 1)
-    spacing-next l e p =
-        record {
-          most = omega arith;
-          small = p.1;
-          same = ap (λ (z : ℕ). parted z (entries S (t + 1) (m - (t + 1)))) p.0
-              ∙ sym (ap by (le-ltb (start_of (get_or S t 0)) end (omega arith))) ∙ here;
-        }
-
-    pub spacing-met : s < end → true ≡ not (parted 0 (entries S 0 m))
-    spacing-met l = ap not (sym (ap by (lt-ltb (start_of (get_or S t 0)) end (omega arith))) ∙ here)
-
-  pub spacing-done : (end t : ℕ) → m ≤ t → Spacing S m end t → false ≡ not (parted 0 (entries S 0 m))
+module _ (end k : ℕ) (K : List ℕ) where
+  pub parted-on : end ≤ start_of k → parted end (k ∷ K) ≡ parted (end_of k) K
   unfolding parted
-  spacing-done end t h g = ap not (sym (ap (parted end) (entries_none S m t h)) ∙ g.same)
+  parted-on h = simp (le-ltb (k / 65536) end h)
 
--- ---- `shares_one`: of the first t keys those below s are left to look at
+  pub parted-off : start_of k < end → parted end (k ∷ K) ≡ false
+  unfolding parted
+  parted-off h = simp (lt-ltb (k / 65536) end h)
 
-pub record Looking (A : List ℕ) (k t s : ℕ) : Type 0 where
-  pub most : s ≤ t
-  pub same : meets_any (start_of k) (end_of k) (backwards A s) ≡ meets_any (start_of k) (end_of k) (backwards A t)
+pub parted-end : (end : ℕ) (K : List ℕ) → K ≡ [] → parted end K ≡ true
+unfolding parted
+parted-end end K e = ap (parted end) e
 
-module _ (A : List ℕ) (k t : ℕ) where
-  abbrev any : List ℕ → Bool
-  any K = meets_any (start_of k) (end_of k) K
+-- ---- one of the keys meets from a up to b, told by index
 
-  pub looking-first : Looking A k t t
-  looking-first = record { most = omega arith; same = refl }
+module _ (a b : ℕ) where
+  abbrev At : List ℕ → ℕ → Type 0
+  At K i = meets a b (start_of (get_or K i 0)) (end_of (get_or K i 0)) ≡ true
 
-  module _ (s s' : ℕ) (h : 0 < s) (e : s' ≡ s - 1) (g : Looking A k t s) (b : Bool)
-      (q : b ≡ meets (start_of k) (end_of k) (start_of (get_or A s' 0)) (end_of (get_or A s' 0))) where
-    here-too : b || any (backwards A s') ≡ any (backwards A t)
-    unfolding backwards meets_any
-    here-too =
-        let w : suc s' ≡ s = omega arith in
-        ap (λ (c : Bool). c || any (backwards A s')) q ∙ ap (λ (n : ℕ). any (backwards A n)) w ∙ g.same
+  any-index : (K : List ℕ) → meets_any a b K ≡ true → SomeIndex K (At K)
+  unfolding meets_any
+  any-index (k ∷ K) e = go (meets a b (start_of k) (end_of k)) refl e (any-index K)
+    where
+      go : (c : Bool) → meets a b (start_of k) (end_of k) ≡ c → c || meets_any a b K ≡ true → (meets_any a b K ≡ true → SomeIndex K (At K))
+          → SomeIndex (k ∷ K) (At (k ∷ K))
+      go true m e f = (0, omega arith, m)
+      go false m e f = let i = f e in (suc i.0, omega (arith, i.1), i.2)
+  any-index [] e = absurdly cc
 
-    pub looking-next : b ≡ false → Looking A k t s'
-    looking-next z =
-        record { most = omega (arith, g.most); same = sym (ap (λ (c : Bool). c || any (backwards A s')) z) ∙ here-too }
+  pub told-any : (K : List ℕ) (c : Bool) → (c ≡ true → SomeIndex K (At K)) → (SomeIndex K (At K) → c ≡ true) → c ≡ meets_any a b K
+  unfolding meets_any
+  told-any K true f g =
+      let i = f refl in sym (list_any_at (λ k. meets a b (start_of k) (end_of k)) K i.0 0 i.1 i.2)
+  told-any K false f g = go (meets_any a b K) refl
+    where
+      go : (t : Bool) → meets_any a b K ≡ t → false ≡ meets_any a b K
+      go true e = let q = g (any-index K e) in absurdly cc
+      go false e = sym e
 
-    pub looking-met : b ≡ true → true ≡ any (backwards A t)
-    looking-met z = sym (ap (λ (c : Bool). c || any (backwards A s')) z) ∙ here-too
+  any-reverse : (K : List ℕ) → meets_any a b (reverse K) ≡ meets_any a b K
+  unfolding meets_any
+  any-reverse K = sym (list_any-IsPermutation (λ k. meets a b (start_of k) (end_of k)) K (reverse K) (IsPermutation-reverse K))
 
-  pub looking-done : (s : ℕ) → s ≤ 0 → Looking A k t s → false ≡ any (backwards A t)
-  unfolding backwards meets_any
-  looking-done s h g = let w : 0 ≡ s = omega arith in ap (λ (n : ℕ). any (backwards A n)) w ∙ g.same
+-- ---- keys: the first e are lower than those that are left
 
--- ---- `lowest`: no key below t shares a byte with a lower one, and one from t on does
+module _ (K : List ℕ) (e : ℕ) (h : e < length K) where
+  abbrev k : ℕ
+  k = get_or K e 0
 
-pub record Searching (A : List ℕ) (n t : ℕ) : Type 0 where
-  pub same : meeting_from (backwards A t) (entries A t (n - t)) ≡ first_meeting (entries A 0 n)
-  pub found : is_found (first_meeting (entries A 0 n)) ≡ true
+  abbrev lower : List ℕ
+  lower = reverse (take e K)
 
-module _ (A : List ℕ) (n : ℕ) where
-  module _ (t : ℕ) (g : Searching A n t) where
-    pub searching-some : t < n
-    unfolding meeting_from
-    searching-some =
-        two t n (λ h. h)
-        (λ h.
-        absurdly
-        (let e : is_found none ≡ true =
-        ap is_found (sym (ap (meeting_from (backwards A t)) (entries_none A n t h)) ∙ g.same) ∙ g.found in cc))
+  abbrev left : List ℕ
+  left = drop (e + 1) K
 
-    abbrev rest : List ℕ
-    rest = entries A (t + 1) (n - (t + 1))
+  step : (b : Bool) → meets_any (start_of k) (end_of k) (take e K) ≡ b
+      → meeting_from lower (drop e K) ≡ cond b (Some k) (meeting_from (k ∷ lower) left)
+  unfolding meeting_from
+  step b q =
+      ap (meeting_from lower) (drop_more K e 0 h)
+      ∙ ap (λ (c : Bool). cond c (Some k) (meeting_from (k ∷ lower) left)) (any-reverse (start_of k) (end_of k) (take e K) ∙ q)
 
-    -- the test of key t against the first j keys, which have to be those below it
-    abbrev Tested : ℕ → Bool → Type 0
-    Tested j b = b ≡ meets_any (start_of (get_or A t 0)) (end_of (get_or A t 0)) (backwards A j)
+  pub meeting-on : meets_any (start_of k) (end_of k) (take e K) ≡ false
+      → meeting_from (reverse (take (e + 1) K)) left ≡ meeting_from lower (drop e K)
+  meeting-on q =
+      ap (λ (X : List ℕ). meeting_from X left) (ap reverse (take_more K e 0 h) ∙ reverse-append (take e K) (k ∷ []))
+      ∙ sym (step false q)
 
-    by_key : (j : ℕ) → j ≡ t → (b : Bool) → Tested j b
-        → cond b (some (get_or A t 0)) (meeting_from (get_or A t 0 ∷ backwards A t) rest) ≡ first_meeting (entries A 0 n)
-    unfolding meeting_from
-    by_key j e b q =
-        ap (λ (c : Bool). cond c (some (get_or A t 0)) (meeting_from (get_or A t 0 ∷ backwards A t) rest))
-        (q ∙ ap (λ (i : ℕ). meets_any (start_of (get_or A t 0)) (end_of (get_or A t 0)) (backwards A i)) e)
-        ∙ ap (meeting_from (backwards A t)) (sym (entries-cons A n t searching-some)) ∙ g.same
+  pub meeting-met : meets_any (start_of k) (end_of k) (take e K) ≡ true → meeting_from lower (drop e K) ≡ Some k
+  meeting-met q = step true q
 
-    pub searching-next : (j : ℕ) → j ≡ t → (b : Bool) → Tested j b → b ≡ false → Searching A n (t + 1)
-    unfolding backwards
-    searching-next j e b q z =
-        record {
-          same = ap (λ (k : ℕ). meeting_from (backwards A k) rest) (add-one t)
-              ∙ sym (ap (λ (c : Bool). cond c (some (get_or A t 0)) (meeting_from (get_or A t 0 ∷ backwards A t) rest)) z) ∙ by_key j e b q;
-          found = g.found;
-        }
-
-    pub searching-met : (j : ℕ) → j ≡ t → (b : Bool) → Tested j b → b ≡ true → first_meeting (entries A 0 n) ≡ some (get_or A t 0)
-    searching-met j e b q z =
-        sym (by_key j e b q) ∙ ap (λ (c : Bool). cond c (some (get_or A t 0)) (meeting_from (get_or A t 0 ∷ backwards A t) rest)) z
-
--- key 0 has no lower one
-pub searching-first : (A : List ℕ) (n e : ℕ) → e ≡ 1 → is_found (first_meeting (entries A 0 n)) ≡ true → Searching A n e
-unfolding backwards meets_any
-searching-first A n e q f =
-    let w : 0 + 1 ≡ e = omega arith in
-    subst (λ (i : ℕ). Searching A n i) w
-    (searching-next A n 0 (record { same = ap (meeting_from []) (entries-all A n); found = f }) 0 refl false refl refl)
+pub meeting-none : (lower K : List ℕ) → K ≡ [] → meeting_from lower K ≡ None
+unfolding meeting_from
+meeting-none lower K e = ap (meeting_from lower) e

@@ -7,6 +7,7 @@ use native.Mathlib.Omega.{arith}
 use native.Mathlib.Numerals.{add-one}
 use lib.ListN.{length, take, drop, length-drop}
 use lib.Seq.{drop-drop}
+use Rattle.std.specs.Prelude.{Some, None}
 use Rattle.endian.specs.LittleEndian.{le_val}
 use Rattle.writes.specs.Sets.{Run, run, writes_at, writes_of, payload, Apart, overlay}
 use Rattle.writes.specs.Sizes.{max_bytes}
@@ -21,8 +22,6 @@ use Rattle.window.proofs.Windows.{in-window, in-window-inv}
 use Rattle.patch.specs.Applying.{lowest_outside}
 use Rattle.reading.specs.Stops.{last_of}
 use Rattle.patch.specs.Placing.{runs_read, set_of, surveyed, RunsOf, RunsTo, AllInside}
-use Rattle.patch.specs.declared.placing.Survey.{Survey}
-use Rattle.patch.specs.declared.placing.Survey.TheVariants.{Inside, Beyond}
 use Rattle.reading.proofs.Steps.{RunAt, run_of, payload-at, after-at}
 
 -- ---- the runs that are left, k of n behind
@@ -114,7 +113,7 @@ module _ (W L : ℕ) (s : List ℕ) (n at k st len : ℕ) (v : Surveying W L s n
     (es : st ≡ le_val (take 8 (drop (at + 2) s))) (el : len ≡ le_val (take 2 (drop (at + 10) s))) where
   -- the survey by the test of the run here
   tested : (st' : ℕ) (p : List ℕ) (ts : List Run) → Left s n at k (run st' p ∷ ts) → v.todo ≡ run st' p ∷ ts
-      → surveyed W L s ≡ cond (in_window W L st len) (lowest_outside W L (suc k) ts) (Beyond k st)
+      → surveyed W L s ≡ cond (in_window W L st len) (lowest_outside W L (suc k) ts) (Some (k, st))
   unfolding lowest_outside
   tested st' p ts l e =
       let x = left_here s n at k st' p ts l in
@@ -122,7 +121,7 @@ module _ (W L : ℕ) (s : List ℕ) (n at k st len : ℕ) (v : Surveying W L s n
       let u : length p ≡ len = sym x.count ∙ sym el in
       v.same
       ∙ ap (lowest_outside W L k) e
-      ∙ ap₂ (λ (a b : ℕ). cond (in_window W L a b) (lowest_outside W L (suc k) ts) (Beyond k a)) w u
+      ∙ ap₂ (λ (a b : ℕ). cond (in_window W L a b) (lowest_outside W L (suc k) ts) (Some (k, a))) w u
 
   pub surveying-in : in_window W L st len ≡ true → Surveying W L s n (at + 12 + len) (k + 1)
   surveying-in t =
@@ -133,32 +132,16 @@ module _ (W L : ℕ) (s : List ℕ) (n at k st len : ℕ) (v : Surveying W L s n
         todo = ts;
         left = subst (λ (z : ℕ). Left s n (at + 12 + z) (k + 1) ts) u (left-next s n at k st' p ts l);
         same = tested st' p ts l e
-            ∙ ap (λ (b : Bool). cond b (lowest_outside W L (suc k) ts) (Beyond k st)) t
+            ∙ ap (λ (b : Bool). cond b (lowest_outside W L (suc k) ts) (Some (k, st))) t
             ∙ ap (λ (z : ℕ). lowest_outside W L z ts) (sym (add-one k));
       })
 
-  pub surveying-out : in_window W L st len ≡ false → Beyond k st ≡ surveyed W L s
+  pub surveying-out : in_window W L st len ≡ false → Some (k, st) ≡ surveyed W L s
   surveying-out t =
       more s n at k v.todo v.left h (λ st' p ts l e.
-      sym (tested st' p ts l e ∙ ap (λ (b : Bool). cond b (lowest_outside W L (suc k) ts) (Beyond k st)) t))
+      sym (tested st' p ts l e ∙ ap (λ (b : Bool). cond b (lowest_outside W L (suc k) ts) (Some (k, st))) t))
 
-pub start_left : (W L : ℕ) (s : List ℕ) (n : ℕ) → RunsOf s n → Surveying W L s n 0 (n - n)
-start_left W L s n r =
-    let w : 0 ≡ n - n = omega arith in
-    subst (λ (k : ℕ). Surveying W L s n 0 k) w (surveying-first W L s n r)
-
--- by a number that is shown apart
-pub numbered : (r k a : ℕ) (v : Survey) → r ≡ k → Beyond k a ≡ v → Beyond r a ≡ v
-numbered r k a v e h = ap (λ (z : ℕ). Beyond z a) e ∙ h
-
--- one fewer is left
-pub one_fewer : (W L : ℕ) (s : List ℕ) (n at left : ℕ) → 0 < left → left ≤ n → Surveying W L s n at (n - left + 1)
-    → Surveying W L s n at (n - (left - 1))
-one_fewer W L s n at left h g v =
-    let w : n - left + 1 ≡ n - (left - 1) = omega arith in
-    subst (λ (k : ℕ). Surveying W L s n at k) w v
-
-pub surveying-done : (W L : ℕ) (s : List ℕ) (n at k : ℕ) → Surveying W L s n at k → n ≤ k → Inside ≡ surveyed W L s
+pub surveying-done : (W L : ℕ) (s : List ℕ) (n at k : ℕ) → Surveying W L s n at k → n ≤ k → None ≡ surveyed W L s
 unfolding lowest_outside
 surveying-done W L s n at k v h = sym (v.same ∙ ap (lowest_outside W L k) (none_left s n at k v.todo v.left h))
 
@@ -173,22 +156,22 @@ last-least l f (run s p ∷ rs) g h =
     let i = last-least (s + (length p - 1)) (s + length p + 1) rs g.4 (omega arith) in
     omega arith
 
-span-inside : (W L k l f : ℕ) (rs : List Run) → Apart f rs → W ≤ f → last_of l rs + 1 ≤ W + L → lowest_outside W L k rs ≡ Inside
+span-inside : (W L k l f : ℕ) (rs : List Run) → Apart f rs → W ≤ f → last_of l rs + 1 ≤ W + L → lowest_outside W L k rs ≡ None
 unfolding lowest_outside last_of
 span-inside W L k l f [] g h e = refl
 span-inside W L k l f (run s p ∷ rs) g h e =
     let a : f ≤ s = g.0 in
     let one : 1 ≤ length p = g.1 in
     let i = last-least (s + (length p - 1)) (s + length p + 1) rs g.4 (omega arith) in
-    ap (λ (b : Bool). cond b (lowest_outside W L (suc k) rs) (Beyond k s)) (in-window W L s (length p) (omega arith) (omega arith))
+    ap (λ (b : Bool). cond b (lowest_outside W L (suc k) rs) (Some (k, s))) (in-window W L s (length p) (omega arith) (omega arith))
     ∙ span-inside W L (suc k) (s + (length p - 1)) (s + length p + 1) rs g.4 (omega arith) e
 
-pub spanned-none : (W L : ℕ) (s : List ℕ) (n l : ℕ) → RunsTo s n l → n ≡ 0 → surveyed W L s ≡ Inside
+pub spanned-none : (W L : ℕ) (s : List ℕ) (n l : ℕ) → RunsTo s n l → n ≡ 0 → surveyed W L s ≡ None
 unfolding surveyed lowest_outside
 spanned-none W L s n l r e = ap (lowest_outside W L 0) (none_left s n 0 0 (runs_read s) (left-first s n r.runs) (omega arith))
 
 pub spanned-all : (W L : ℕ) (s : List ℕ) (n l st : ℕ) → RunsTo s n l → (n ≡ 0 → ⊥) → st ≡ le_val (take 8 (drop 2 s)) → W ≤ st
-    → (b : ℕ) → 1 ≤ b → in_window W L l b ≡ true → surveyed W L s ≡ Inside
+    → (b : ℕ) → 1 ≤ b → in_window W L l b ≡ true → surveyed W L s ≡ None
 unfolding surveyed
 spanned-all W L s n l st r z es h b o t =
     more s n 0 0 (runs_read s) (left-first s n r.runs) (omega arith) (λ st' p ts v e.
@@ -206,13 +189,13 @@ abbrev pub AllIn : ℕ → ℕ → List Run → Type 0
 AllIn W L [] = Unit {0}
 AllIn W L (run s p ∷ rs) = (W ≤ s) × (s + length p ≤ W + L) × AllIn W L rs
 
-pub all_in : (W L k : ℕ) (rs : List Run) → lowest_outside W L k rs ≡ Inside → AllIn W L rs
+pub all_in : (W L k : ℕ) (rs : List Run) → lowest_outside W L k rs ≡ None → AllIn W L rs
 unfolding lowest_outside
 all_in W L k [] e = tt
 all_in W L k (run s p ∷ rs) e = go (in_window W L s (length p)) refl e (all_in W L (suc k) rs)
   where
-    go : (t : Bool) → in_window W L s (length p) ≡ t → cond t (lowest_outside W L (suc k) rs) (Beyond k s) ≡ Inside
-        → (lowest_outside W L (suc k) rs ≡ Inside → AllIn W L rs) → AllIn W L (run s p ∷ rs)
+    go : (t : Bool) → in_window W L s (length p) ≡ t → cond t (lowest_outside W L (suc k) rs) (Some (k, s)) ≡ None
+        → (lowest_outside W L (suc k) rs ≡ None → AllIn W L rs) → AllIn W L (run s p ∷ rs)
     go true q r f = let i = in-window-inv W L s (length p) q in (i.0, i.1, f r)
     go false q r f = absurdly cc
 

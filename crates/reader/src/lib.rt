@@ -1,5 +1,5 @@
-// A reader of a patch: it keeps hold of the lent bytes and its place. The functions over it are thin; the work is done by functions of a
-// slice and a cursor. `next_run` and `payload_of` serve callers that have these.
+// A reader of a patch: it keeps hold of the lent bytes and its place. Its methods are thin; the work is done by functions of a slice and a
+// cursor. `next_run` and `payload_of` serve callers that have these.
 #![tactic(auto)]
 
 ghost use Rattle.std.specs.Prelude.{◌≡◌, ◌+◌, ◌≤◌, length};
@@ -14,34 +14,36 @@ pub struct Reader<'a> {
     pub cursor: Cursor,
 }
 
-// A reader at the start of the bytes.
-pub fn open<'a>(patch: &'a [u8]) -> Reader<'a>
-    ensures { (result.patch ≡ patch.entry) × (result.cursor ≡ from 0) }
-{
-    let cursor = Cursor {
-        at: 0,
-        runs: 0,
-        bytes: 0,
-        last: 0,
-    };
-    Reader { patch, cursor }
-}
+impl<'a> Reader<'a> {
+    // A reader at the start of the bytes.
+    pub fn open(patch: &'a [u8]) -> Reader<'a>
+        ensures { (result.patch ≡ patch.entry) × (result.cursor ≡ from 0) }
+    {
+        let cursor = Cursor::start(0);
+        Reader { patch, cursor }
+    }
 
-// What stands at the reader's place, in a string that was judged.
-pub fn step<'a>(r: Reader<'a>) -> Step
-    requires { Stands r.patch.now r.cursor }
-    ensures { result ≡ step_at r.entry.patch.now r.entry.cursor }
-{
-    reading::step_on(r.patch, r.cursor)
-}
+    // What stands at the reader's place, in a string that was judged.
+    pub fn step(self) -> Step
+        requires { Stands self.patch.now self.cursor }
+        ensures { Some result ≡ step_at self.entry.patch.now self.entry.cursor }
+    {
+        reading::step_on(self.patch, self.cursor)
+    }
 
-// The same bytes at another place.
-pub fn moved<'a>(r: Reader<'a>, c: Cursor) -> Reader<'a>
-    ensures { (result.patch ≡ r.entry.patch) × (result.cursor ≡ c) }
-{
-    Reader {
-        patch: r.patch,
-        cursor: c,
+    // The same bytes at another place.
+    pub fn moved(self, cursor: Cursor) -> Reader<'a>
+        ensures { (result.patch ≡ self.entry.patch) × (result.cursor ≡ cursor) }
+    {
+        Reader { cursor, ..self }
+    }
+
+    // A run's payload, as that part of the caller's patch.
+    pub fn payload(self, at: usize, n: usize) -> &'a [u8]
+        requires { at + n ≤ length self.patch.now }
+        ensures { PartAt self.entry.patch at n result }
+    {
+        part(self.patch, at, n)
     }
 }
 
@@ -53,20 +55,12 @@ pub fn part(s: &[u8], at: usize, n: usize) -> &[u8]
     &s[at..at + n]
 }
 
-// A run's payload, as that part of the caller's patch.
-pub fn payload<'a>(r: Reader<'a>, at: usize, n: usize) -> &'a [u8]
-    requires { at + n ≤ length r.patch.now }
-    ensures { PartAt r.entry.patch at n result }
-{
-    part(r.patch, at, n)
-}
-
 // One step at a place, through a reader, for a caller with plain parameters.
 pub fn next_run(patch: &[u8], c: Cursor) -> Step
     requires { Stands patch.now c }
-    ensures { result ≡ step_at patch.now c }
+    ensures { Some result ≡ step_at patch.now c }
 {
-    step(moved(open(patch), c))
+    Reader::open(patch).moved(c).step()
 }
 
 // A run's payload, through a reader.
@@ -74,5 +68,5 @@ pub fn payload_of(patch: &[u8], at: usize, n: usize) -> &[u8]
     requires { at + n ≤ length patch.now }
     ensures { PartAt patch.entry at n result }
 {
-    payload(open(patch), at, n)
+    Reader::open(patch).payload(at, n)
 }

@@ -8,11 +8,12 @@ use native.Mathlib.Nat.{add-zero}
 use lib.ListN.{length, take, drop, get_or, length-drop}
 use lib.Seq.{get_or-drop, drop-drop}
 use borrow.Author.Tests.{eq-eqb, ne_eqb}
+use Rattle.std.specs.Prelude.{Option, Some, None}
 use Rattle.endian.specs.LittleEndian.{le_val}
 use Rattle.reading.specs.Reader.{head_at, admits, past, on_head, step_at}
 use Rattle.reading.specs.declared.Head.{Head}
-use Rattle.reading.specs.declared.Head.TheVariants.{Start, Trailer, Neither}
-use Rattle.reading.specs.declared.Step.TheVariants.{Next, End, Bad}
+use Rattle.reading.specs.declared.Head.TheVariants.{Start, Trailer}
+use Rattle.reading.specs.declared.Step.TheVariants.{Next, End}
 use Rattle.reading.specs.declared.Cursor.{Cursor}
 use Rattle.reading.proofs.Steps.{head-run, head-trailer, head-run-inv, head-trailer-inv}
 
@@ -35,7 +36,7 @@ pub record TrailerIn (s : List ℕ) (at k : ℕ) : Type 0 where
 first-byte : (s : List ℕ) (at : ℕ) → get_or (drop at s) 0 0 ≡ get_or s at 0
 first-byte s at = get_or-drop at s 0 0 ∙ ap (λ (z : ℕ). get_or s z 0) (add-zero at)
 
-pub run_in : (s : List ℕ) (at st n : ℕ) → RunIn s at st n → Start st n ≡ head_at s at
+pub run_in : (s : List ℕ) (at st n : ℕ) → RunIn s at st n → Some (Start st n) ≡ head_at s at
 unfolding head_at
 run_in s at st n h =
     sym (head-run (drop at s) st n (record {
@@ -47,7 +48,7 @@ run_in s at st n h =
       fits = simp length-drop h.fits;
     }))
 
-pub trailer-in : (s : List ℕ) (at k : ℕ) → TrailerIn s at k → Trailer k ≡ head_at s at
+pub trailer-in : (s : List ℕ) (at k : ℕ) → TrailerIn s at k → Some (Trailer k) ≡ head_at s at
 unfolding head_at
 trailer-in s at k h =
     sym (head-trailer (drop at s) k (record {
@@ -57,7 +58,7 @@ trailer-in s at k h =
       count = ap (λ (z : List ℕ). le_val (take 2 z)) (drop-drop 2 at s) ∙ sym h.count;
     }))
 
-pub run-in-inv : (s : List ℕ) (at st n : ℕ) → head_at s at ≡ Start st n → RunIn s at st n
+pub run-in-inv : (s : List ℕ) (at st n : ℕ) → head_at s at ≡ Some (Start st n) → RunIn s at st n
 unfolding head_at
 run-in-inv s at st n e =
     let h = head-run-inv (drop at s) st n e in
@@ -70,7 +71,7 @@ run-in-inv s at st n e =
       fits = omega (arith, length-drop at s, h.fits);
     }
 
-pub trailer-in-inv : (s : List ℕ) (at k : ℕ) → head_at s at ≡ Trailer k → TrailerIn s at k
+pub trailer-in-inv : (s : List ℕ) (at k : ℕ) → head_at s at ≡ Some (Trailer k) → TrailerIn s at k
 unfolding head_at
 trailer-in-inv s at k e =
     let h = head-trailer-inv (drop at s) k e in
@@ -82,33 +83,33 @@ trailer-in-inv s at k e =
     }
 
 -- neither
-pub neither-in : (s : List ℕ) (at : ℕ) → ((st n : ℕ) → RunIn s at st n → ⊥) → ((k : ℕ) → TrailerIn s at k → ⊥) → Neither ≡ head_at s at
+pub neither-in : (s : List ℕ) (at : ℕ) → ((st n : ℕ) → RunIn s at st n → ⊥) → ((k : ℕ) → TrailerIn s at k → ⊥) → None ≡ head_at s at
 neither-in s at f g = go (head_at s at) refl
   where
-    go : (h : Head) → head_at s at ≡ h → Neither ≡ h
-    go Neither e = refl
-    go (Trailer k) e = absurd (g k (trailer-in-inv s at k e))
-    go (Start st n) e = absurd (f st n (run-in-inv s at st n e))
+    go : (h : Option Head) → head_at s at ≡ h → None ≡ h
+    go None e = refl
+    go (Some (Trailer k)) e = absurd (g k (trailer-in-inv s at k e))
+    go (Some (Start st n)) e = absurd (f st n (run-in-inv s at st n e))
 
 -- ---- a step by what its head and its tests say, as code finds them
 
-pub step-neither : (s : List ℕ) (c : Cursor) → head_at s c.at ≡ Neither → Bad ≡ step_at s c
+pub step-neither : (s : List ℕ) (c : Cursor) → head_at s c.at ≡ None → None ≡ step_at s c
 unfolding step_at on_head
 step-neither s c e = sym (ap (on_head c) e)
 
-pub step-trailer : (s : List ℕ) (c : Cursor) (k : ℕ) → head_at s c.at ≡ Trailer k → k ≡ c.runs → End (c.at + 4) ≡ step_at s c
+pub step-trailer : (s : List ℕ) (c : Cursor) (k : ℕ) → head_at s c.at ≡ Some (Trailer k) → k ≡ c.runs → Some (End (c.at + 4)) ≡ step_at s c
 unfolding step_at on_head
 step-trailer s c k e h = sym (ap (on_head c) e ∙ simp (eq-eqb k c.runs h))
 
-pub step-trailer-no : (s : List ℕ) (c : Cursor) (k : ℕ) → head_at s c.at ≡ Trailer k → (k ≡ c.runs → ⊥) → Bad ≡ step_at s c
+pub step-trailer-no : (s : List ℕ) (c : Cursor) (k : ℕ) → head_at s c.at ≡ Some (Trailer k) → (k ≡ c.runs → ⊥) → None ≡ step_at s c
 unfolding step_at on_head
 step-trailer-no s c k e h = sym (ap (on_head c) e ∙ simp (ne_eqb k c.runs h))
 
-pub step_run : (s : List ℕ) (c : Cursor) (st n : ℕ) → head_at s c.at ≡ Start st n → admits c st n ≡ true
-    → Next st (c.at + 12) n (past c st n) ≡ step_at s c
+pub step_run : (s : List ℕ) (c : Cursor) (st n : ℕ) → head_at s c.at ≡ Some (Start st n) → admits c st n ≡ true
+    → Some (Next st (c.at + 12) n (past c st n)) ≡ step_at s c
 unfolding step_at on_head
 step_run s c st n e h = sym (ap (on_head c) e ∙ simp h)
 
-pub step-run-no : (s : List ℕ) (c : Cursor) (st n : ℕ) → head_at s c.at ≡ Start st n → admits c st n ≡ false → Bad ≡ step_at s c
+pub step-run-no : (s : List ℕ) (c : Cursor) (st n : ℕ) → head_at s c.at ≡ Some (Start st n) → admits c st n ≡ false → None ≡ step_at s c
 unfolding step_at on_head
 step-run-no s c st n e h = sym (ap (on_head c) e ∙ simp h)

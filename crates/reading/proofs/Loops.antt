@@ -1,18 +1,17 @@
 -- The loop over the steps comes to where reading ends. Assumes nothing.
-use mathlib.Core.Path.{◌≡◌, refl, sym, ap, ◌∙◌, subst}
+use mathlib.Core.Path.{◌≡◌, refl, sym, ap, ap₂, ◌∙◌, subst}
 use Prim.Native.Nat.{ℕ, zero, suc, ◌+◌, ◌-◌, ◌≤◌, ◌<◌}
 use mathlib.Core.List.{List, [], ◌∷◌}
-use mathlib.Core.Bool.{Bool, true, false}
 use native.Mathlib.Omega.{arith}
 use lib.ListN.{length, take, drop, length-drop}
+use Rattle.std.specs.Prelude.{Option, Some, None, Result, Ok, Err}
 use Rattle.writes.specs.Sets.{Run, run, payload}
 use Rattle.writes.specs.Sizes.{max_runs}
 use Rattle.reading.specs.Reader.{past, step_at, Found, whole, broken, before, on_step, scan, from, read_at}
 use Rattle.reading.specs.Stops.{last_of, stop_of}
 use Rattle.reading.specs.declared.Step.{Step}
-use Rattle.reading.specs.declared.Step.TheVariants.{Next, End, Bad}
+use Rattle.reading.specs.declared.Step.TheVariants.{Next, End}
 use Rattle.reading.specs.declared.Cursor.{Cursor}
-use Rattle.reading.specs.declared.Stop.{Stop}
 use Rattle.reading.proofs.Steps.{TakenAt, step-next-inv, step-end-inv, taken-length}
 
 -- ---- what is still to be read from a cursor, and where that ends
@@ -20,14 +19,14 @@ use Rattle.reading.proofs.Steps.{TakenAt, step-next-inv, step-end-inv, taken-len
 unfoldable pub rest : List ℕ → Cursor → Found
 rest s c = scan (suc max_runs - c.runs) s c
 
-unfoldable pub stop : Bool → Cursor → List Run → ℕ → Stop
-stop b c rs a = record { ended = b; runs = c.runs + length rs; last = last_of c.last rs; bytes = c.bytes + payload rs; at = a }
+unfoldable pub stop : Cursor → List Run → ℕ → Cursor
+stop c rs a = record { at = a; runs = c.runs + length rs; bytes = c.bytes + payload rs; last = last_of c.last rs }
 
-unfoldable pub stop_from : Cursor → Found → Stop
-stop_from c (whole rs e) = stop true c rs (e - 4)
-stop_from c (broken rs a) = stop false c rs a
+unfoldable pub stop_from : Cursor → Found → Result Cursor Cursor
+stop_from c (whole rs e) = Ok (stop c rs (e - 4))
+stop_from c (broken rs a) = Err (stop c rs a)
 
-pub rest-step : (s : List ℕ) (c : Cursor) (w : Step) → c.runs ≤ max_runs → step_at s c ≡ w
+pub rest-step : (s : List ℕ) (c : Cursor) (w : Option Step) → c.runs ≤ max_runs → step_at s c ≡ w
     → rest s c ≡ on_step (scan (max_runs - c.runs) s) s c w
 unfolding rest scan
 rest-step s c w h e =
@@ -55,14 +54,14 @@ going-first s a =
         let j : payload rs ≡ 0 + payload rs = omega arith in
         cc
 
-pub going_next : (s : List ℕ) (a : ℕ) (c : Cursor) (st at n : ℕ) (c' : Cursor) → Going s a c → step_at s c ≡ Next st at n c'
+pub going_next : (s : List ℕ) (a : ℕ) (c : Cursor) (st at n : ℕ) (c' : Cursor) → Going s a c → step_at s c ≡ Some (Next st at n c')
     → Going s a c'
 unfolding on_step past rest stop_from stop payload last_of
 going_next s a c st at n c' g e =
     let k = step-next-inv s c st at n c' e in
     let ad = k.admitted in
     let w : max_runs - c.runs ≡ suc max_runs - c'.runs = omega (arith, ap (λ (z : Cursor). z.runs) k.next) in
-    let q = rest-step s c (Next st at n c') g.few e ∙ ap (λ (z : ℕ). before (run st (take n (drop at s))) (scan z s c')) w in
+    let q = rest-step s c (Some (Next st at n c')) g.few e ∙ ap (λ (z : ℕ). before (run st (take n (drop at s))) (scan z s c')) w in
     record {
       few = omega (arith, ap (λ (z : Cursor). z.runs) k.next, ad.few);
       same = g.same ∙ ap (stop_from c) q ∙ go (scan (suc max_runs - c'.runs) s c');
@@ -72,8 +71,8 @@ going_next s a c st at n c' g e =
     k = step-next-inv s c st at n c' e
 
     -- a run more
-    more : (b : Bool) (rs : List Run) (d : ℕ) → stop b c (run st (take n (drop at s)) ∷ rs) d ≡ stop b c' rs d
-    more b rs d =
+    more : (rs : List Run) (d : ℕ) → stop c (run st (take n (drop at s)) ∷ rs) d ≡ stop c' rs d
+    more rs d =
         let l = taken-length s c st at n c' k in
         let x : c.runs + suc (length rs) ≡ c'.runs + length rs = omega (arith, ap (λ (z : Cursor). z.runs) k.next) in
         let y : c.bytes + (length (take n (drop at s)) + payload rs) ≡ c'.bytes + payload rs =
@@ -82,10 +81,10 @@ going_next s a c st at n c' g e =
         cc
 
     go : (o : Found) → stop_from c (before (run st (take n (drop at s))) o) ≡ stop_from c' o
-    go (whole rs d) = more true rs (d - 4)
-    go (broken rs d) = more false rs d
+    go (whole rs d) = ap Ok (more rs (d - 4))
+    go (broken rs d) = ap Err (more rs d)
 
-pub going_less : (s : List ℕ) (c : Cursor) (st at n : ℕ) (c' : Cursor) → step_at s c ≡ Next st at n c'
+pub going_less : (s : List ℕ) (c : Cursor) (st at n : ℕ) (c' : Cursor) → step_at s c ≡ Some (Next st at n c')
     → max_runs - c'.runs < max_runs - c.runs
 unfolding past
 going_less s c st at n c' e =
@@ -94,26 +93,23 @@ going_less s c st at n c' e =
     omega (arith, ap (λ (z : Cursor). z.runs) k.next, ad.few)
 
 -- the steps' end, at a trailer and before what can't be accepted
-stopped : (b : Bool) (c : Cursor)
-    → stop b c [] c.at ≡ record { ended = b; runs = c.runs; last = c.last; bytes = c.bytes; at = c.at }
+stopped : (c : Cursor) → stop c [] c.at ≡ c
 unfolding stop payload last_of
-stopped b c =
+stopped c =
     let x : c.runs + 0 ≡ c.runs = omega arith in
     let y : c.bytes + 0 ≡ c.bytes = omega arith in
-    cc
+    ap₂ (λ (k t : ℕ). record { at = c.at; runs = k; bytes = t; last = c.last }) x y
 
-pub stop-end : (s : List ℕ) (a : ℕ) (c : Cursor) (e : ℕ) → Going s a c → step_at s c ≡ End e
-    → record { ended = true; runs = c.runs; last = c.last; bytes = c.bytes; at = c.at } ≡ stop_of (read_at s a)
+pub stop-end : (s : List ℕ) (a : ℕ) (c : Cursor) (e : ℕ) → Going s a c → step_at s c ≡ Some (End e) → Ok c ≡ stop_of (read_at s a)
 unfolding on_step stop_from
 stop-end s a c e g q =
     let k = step-end-inv s c e q in
     let w : e - 4 ≡ c.at = omega (arith, k.index) in
-    sym (g.same ∙ ap (stop_from c) (rest-step s c (End e) g.few q) ∙ ap (stop true c []) w ∙ stopped true c)
+    sym (g.same ∙ ap (stop_from c) (rest-step s c (Some (End e)) g.few q) ∙ ap Ok (ap (stop c []) w ∙ stopped c))
 
-pub stop-bad : (s : List ℕ) (a : ℕ) (c : Cursor) → Going s a c → step_at s c ≡ Bad
-    → record { ended = false; runs = c.runs; last = c.last; bytes = c.bytes; at = c.at } ≡ stop_of (read_at s a)
+pub stop-bad : (s : List ℕ) (a : ℕ) (c : Cursor) → Going s a c → step_at s c ≡ None → Err c ≡ stop_of (read_at s a)
 unfolding on_step stop_from
-stop-bad s a c g q = sym (g.same ∙ ap (stop_from c) (rest-step s c Bad g.few q) ∙ stopped false c)
+stop-bad s a c g q = sym (g.same ∙ ap (stop_from c) (rest-step s c None g.few q) ∙ ap Err (stopped c))
 
 -- ---- a trailer's four bytes
 
@@ -126,15 +122,15 @@ unfolding Fits
 before-fits s r (whole rs e) h = h
 before-fits s r (broken rs a) h = tt
 
-step_fits : (s : List ℕ) (c : Cursor) (go : Cursor → Found) → ((c' : Cursor) → Fits s (go c')) → (w : Step) → step_at s c ≡ w
+step_fits : (s : List ℕ) (c : Cursor) (go : Cursor → Found) → ((c' : Cursor) → Fits s (go c')) → (w : Option Step) → step_at s c ≡ w
     → Fits s (on_step go s c w)
 unfolding on_step Fits
-step_fits s c go h (Next st at n c') q = before-fits s (run st (take n (drop at s))) (go c') (h c')
-step_fits s c go h (End e) q =
+step_fits s c go h (Some (Next st at n c')) q = before-fits s (run st (take n (drop at s))) (go c') (h c')
+step_fits s c go h (Some (End e)) q =
     let k = step-end-inv s c e q in
     let hd = k.head in
     (omega (arith, k.index), omega (arith, k.index, hd.long, length-drop c.at s))
-step_fits s c go h Bad q = tt
+step_fits s c go h None q = tt
 
 scan-fits : (f : ℕ) (s : List ℕ) (c : Cursor) → Fits s (scan f s c)
 unfolding scan Fits

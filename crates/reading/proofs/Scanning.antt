@@ -7,6 +7,7 @@ use native.Mathlib.Omega.{arith}
 use native.Mathlib.Nat.{add-zero}
 use lib.ListN.{length, take, drop}
 use lib.Seq.{drop-drop}
+use Rattle.std.specs.Prelude.{Option, Some, None}
 use Rattle.endian.specs.LittleEndian.{Bytes}
 use Rattle.writes.specs.Sets.{Run, run, payload, Apart}
 use Rattle.writes.specs.Sizes.{max_runs, max_bytes}
@@ -16,7 +17,7 @@ use Rattle.endian.proofs.Order.{absurdly}
 use Rattle.endian.proofs.LittleEndian.{bytes_take, bytes_drop}
 use Rattle.reading.specs.Reader.{floor_of, past, step_at, Found, whole, broken, before, on_step, scan}
 use Rattle.reading.specs.declared.Step.{Step}
-use Rattle.reading.specs.declared.Step.TheVariants.{Next, End, Bad}
+use Rattle.reading.specs.declared.Step.TheVariants.{Next, End}
 use Rattle.reading.specs.declared.Cursor.{Cursor}
 use Rattle.reading.proofs.Steps.{Admits, TakenAt, run-bytes, trailer-bytes, past-floor, step-next, step_end, step-next-inv}
 use Rattle.reading.proofs.Steps.{step-end-inv, payload-at, after-at, taken-length}
@@ -41,7 +42,7 @@ pub record Ahead (s : List ℕ) (c : Cursor) (rs : List Run) (rest : List ℕ) :
 
 -- the first of them is taken, and the others are behind it
 module _ (s : List ℕ) (c : Cursor) (st : ℕ) (p : List ℕ) (rs : List Run) (rest : List ℕ) (a : Ahead s c (run st p ∷ rs) rest) where
-  pub ahead_step : step_at s c ≡ Next st (c.at + 12) (length p) (past c st (length p))
+  pub ahead_step : step_at s c ≡ Some (Next st (c.at + 12) (length p) (past c st (length p)))
   unfolding runs_then payload
   ahead_step =
       let g = a.apart in
@@ -144,10 +145,10 @@ kept_next s c st at n c' k =
 
 step-read : (f : ℕ) (s : List ℕ) (c : Cursor) (rs : List Run) (e : ℕ) → Bytes s → Kept c
     → ((c' : Cursor) (ts : List Run) → Kept c' → scan f s c' ≡ whole ts e → Read s c' ts e)
-    → (w : Step) → step_at s c ≡ w → on_step (scan f s) s c w ≡ whole rs e → Read s c rs e
+    → (w : Option Step) → step_at s c ≡ w → on_step (scan f s) s c w ≡ whole rs e → Read s c rs e
 unfolding on_step runs_then payload past
-step-read f s c rs e hb h ih Bad q r = absurdly cc
-step-read f s c rs e hb h ih (End d) q r =
+step-read f s c rs e hb h ih None q r = absurdly cc
+step-read f s c rs e hb h ih (Some (End d)) q r =
     let er : [] ≡ rs = cc in
     let ee : d ≡ e = cc in
     let k = step-end-inv s c d q in
@@ -164,7 +165,7 @@ step-read f s c rs e hb h ih (End d) q r =
       };
       end = omega arith;
     })
-step-read f s c rs e hb h ih (Next st at n c') q r =
+step-read f s c rs e hb h ih (Some (Next st at n c')) q r =
     let x : Run = run st (take n (drop at s)) in
     let b = before-whole x (scan f s c') rs e r in
     let ts = b.0 in

@@ -8,6 +8,7 @@ use lib.ListN.{length, take, drop, get_or, length-append, length-drop}
 use lib.Seq.{drop-drop, take_at, drop_at}
 use lib.Dec.{leb, ltb, eqb}
 use borrow.Author.Tests.{lt-ltb, le-ltb, le-leb, eq-eqb, ltb-true, ltb-false, leb-true, eqb-true}
+use Rattle.std.specs.Prelude.{Option, Some, None}
 use Rattle.endian.specs.LittleEndian.{Bytes, le_val, le_bytes}
 use Rattle.writes.specs.Sizes.{max_runs, max_bytes}
 use Rattle.writes.specs.Encoding.{run_then, trailer}
@@ -16,9 +17,9 @@ use Rattle.endian.proofs.LittleEndian.{le_val-le_bytes, le_bytes-part}
 use Rattle.endian.proofs.Parts.{length_part, drop-split}
 use Rattle.reading.specs.Reader.{head_of, head_at, floor_of, admits, past, on_head, step_at}
 use Rattle.reading.specs.declared.Head.{Head}
-use Rattle.reading.specs.declared.Head.TheVariants.{Start, Trailer, Neither}
+use Rattle.reading.specs.declared.Head.TheVariants.{Start, Trailer}
 use Rattle.reading.specs.declared.Step.{Step}
-use Rattle.reading.specs.declared.Step.TheVariants.{Next, End, Bad}
+use Rattle.reading.specs.declared.Step.TheVariants.{Next, End}
 use Rattle.reading.specs.declared.Cursor.{Cursor}
 
 -- ---- the test of a run, as a fact
@@ -88,7 +89,7 @@ pub record TrailerAt (l : List ℕ) (k : ℕ) : Type 0 where
   pub mark1 : get_or l 1 0 ≡ 0x45
   pub count : le_val (take 2 (drop 2 l)) ≡ k
 
-pub head-run : (l : List ℕ) (s n : ℕ) → RunAt l s n → head_of l ≡ Start s n
+pub head-run : (l : List ℕ) (s n : ℕ) → RunAt l s n → head_of l ≡ Some (Start s n)
 unfolding head_of
 head-run l s n h =
     simp (
@@ -101,20 +102,20 @@ head-run l s n h =
       le-ltb (length l - 12) n h.fits,
     )
 
-pub head-trailer : (l : List ℕ) (k : ℕ) → TrailerAt l k → head_of l ≡ Trailer k
+pub head-trailer : (l : List ℕ) (k : ℕ) → TrailerAt l k → head_of l ≡ Some (Trailer k)
 unfolding head_of
 head-trailer l k h = simp (h.mark0, h.mark1, h.count, le-ltb (length l) 4 h.long)
 
 -- what the tests say of a head that they end in
-Tests : (a b c e f g : Bool) (k n s : ℕ) → Head → Type 0
-Tests a b c e f g k n s Neither = Unit {0}
-Tests a b c e f g k n s (Trailer k') = (a ≡ false) × (b ≡ true) × (c ≡ true) × (k ≡ k')
-Tests a b c e f g k n s (Start s' n') =
+Tests : (a b c e f g : Bool) (k n s : ℕ) → Option Head → Type 0
+Tests a b c e f g k n s None = Unit {0}
+Tests a b c e f g k n s (Some (Trailer k')) = (a ≡ false) × (b ≡ true) × (c ≡ true) × (k ≡ k')
+Tests a b c e f g k n s (Some (Start s' n')) =
     (a ≡ false) × (b ≡ true) × (e ≡ true) × (f ≡ false) × (g ≡ false) × (s ≡ s') × (n ≡ n')
 
 tests : (a b c e f g : Bool) (k n s : ℕ)
     → Tests a b c e f g k n s
-    (cond a Neither (cond b (cond c (Trailer k) (cond e (cond f Neither (cond g Neither (Start s n))) Neither)) Neither))
+    (cond a None (cond b (cond c (Some (Trailer k)) (cond e (cond f None (cond g None (Some (Start s n)))) None)) None))
 unfolding Tests
 tests true b c e f g k n s = tt
 tests false false c e f g k n s = tt
@@ -124,20 +125,20 @@ tests false true false true true g k n s = tt
 tests false true false true false true k n s = tt
 tests false true false true false false k n s = (refl, refl, refl, refl, refl, refl, refl)
 
-TestsAt : List ℕ → Head → Type 0
+TestsAt : List ℕ → Option Head → Type 0
 TestsAt l =
     Tests (ltb (length l) 4) (eqb (get_or l 0 0) 0x50) (eqb (get_or l 1 0) 0x45) (eqb (get_or l 1 0) 0x52) (ltb (length l) 12)
     (ltb (length l - 12) (le_val (take 2 (drop 10 l)))) (le_val (take 2 (drop 2 l))) (le_val (take 2 (drop 10 l)))
     (le_val (take 8 (drop 2 l)))
 
-tests-at : (l : List ℕ) (h : Head) → head_of l ≡ h → TestsAt l h
+tests-at : (l : List ℕ) (h : Option Head) → head_of l ≡ h → TestsAt l h
 unfolding head_of TestsAt
 tests-at l h e = subst (TestsAt l) e (tests _ _ _ _ _ _ _ _ _)
 
-pub head-run-inv : (l : List ℕ) (s n : ℕ) → head_of l ≡ Start s n → RunAt l s n
+pub head-run-inv : (l : List ℕ) (s n : ℕ) → head_of l ≡ Some (Start s n) → RunAt l s n
 unfolding TestsAt Tests
 head-run-inv l s n e =
-    let t = tests-at l (Start s n) e in
+    let t = tests-at l (Some (Start s n)) e in
     record {
       long = ltb-false (length l) 12 t.3;
       mark0 = eqb-true (get_or l 0 0) 0x50 t.1;
@@ -147,10 +148,10 @@ head-run-inv l s n e =
       fits = rw (sym t.6) (ltb-false (length l - 12) (le_val (take 2 (drop 10 l))) t.4);
     }
 
-pub head-trailer-inv : (l : List ℕ) (k : ℕ) → head_of l ≡ Trailer k → TrailerAt l k
+pub head-trailer-inv : (l : List ℕ) (k : ℕ) → head_of l ≡ Some (Trailer k) → TrailerAt l k
 unfolding TestsAt Tests
 head-trailer-inv l k e =
-    let t = tests-at l (Trailer k) e in
+    let t = tests-at l (Some (Trailer k)) e in
     record {
       long = ltb-false (length l) 4 t.0;
       mark0 = eqb-true (get_or l 0 0) 0x50 t.1;
@@ -214,16 +215,16 @@ unfolding past
 past-floor c start n h = floor-pos (c.runs + 1) (start + (n - 1)) (λ e. omega arith) ∙ omega arith
 
 pub step-next : (s : List ℕ) (c : Cursor) (st : ℕ) (p rest : List ℕ) → drop c.at s ≡ run_then st p rest → Admits c st (length p)
-    → length p < 65536 → step_at s c ≡ Next st (c.at + 12) (length p) (past c st (length p))
+    → length p < 65536 → step_at s c ≡ Some (Next st (c.at + 12) (length p) (past c st (length p)))
 unfolding step_at head_at on_head
 step-next s c st p rest e a h =
     let hs : st < 2 ^ 64 = omega arith in
-    let hd : head_of (drop c.at s) ≡ Start st (length p) =
+    let hd : head_of (drop c.at s) ≡ Some (Start st (length p)) =
     ap head_of e ∙ head-run (run_then st p rest) st (length p) (run_of st p rest hs h) in
     ap (on_head c) hd ∙ simp (admits-true c st (length p) a)
 
 pub step_end : (s : List ℕ) (c : Cursor) (rest : List ℕ) → drop c.at s ≡ trailer c.runs ++ rest → c.runs < 65536
-    → step_at s c ≡ End (c.at + 4)
+    → step_at s c ≡ Some (End (c.at + 4))
 unfolding step_at head_at on_head
 step_end s c rest e h =
     ap (on_head c) (ap head_of e ∙ head-trailer (trailer c.runs ++ rest) c.runs (trailer-of c.runs rest h))
@@ -251,42 +252,42 @@ pub record EndedAt (s : List ℕ) (c : Cursor) (e : ℕ) : Type 0 where
   pub head : TrailerAt (drop c.at s) c.runs
   pub index : e ≡ c.at + 4
 
-Says : List ℕ → Cursor → Step → Type 0
-Says s c (Next st at n c') = TakenAt s c st at n c'
-Says s c (End e) = EndedAt s c e
-Says s c Bad = Unit {0}
+Says : List ℕ → Cursor → Option Step → Type 0
+Says s c (Some (Next st at n c')) = TakenAt s c st at n c'
+Says s c (Some (End e)) = EndedAt s c e
+Says s c None = Unit {0}
 
 module _ (s : List ℕ) (c : Cursor) where
-  by-run : (st n : ℕ) (t : Bool) → admits c st n ≡ t → head_of (drop c.at s) ≡ Start st n
-      → Says s c (cond t (Next st (c.at + 12) n (past c st n)) Bad)
+  by-run : (st n : ℕ) (t : Bool) → admits c st n ≡ t → head_of (drop c.at s) ≡ Some (Start st n)
+      → Says s c (cond t (Some (Next st (c.at + 12) n (past c st n))) None)
   unfolding Says
   by-run st n true a h =
       record { admitted = admits-inv c st n a; head = head-run-inv (drop c.at s) st n h; index = refl; next = refl }
   by-run st n false a h = tt
 
-  by-trailer : (k : ℕ) (t : Bool) → eqb k c.runs ≡ t → head_of (drop c.at s) ≡ Trailer k → Says s c (cond t (End (c.at + 4)) Bad)
+  by-trailer : (k : ℕ) (t : Bool) → eqb k c.runs ≡ t → head_of (drop c.at s) ≡ Some (Trailer k) → Says s c (cond t (Some (End (c.at + 4))) None)
   unfolding Says
   by-trailer k true q h =
-      record { head = head-trailer-inv (drop c.at s) c.runs (h ∙ ap Trailer (eqb-true k c.runs q)); index = refl }
+      record { head = head-trailer-inv (drop c.at s) c.runs (h ∙ ap (λ (z : ℕ). Some (Trailer z)) (eqb-true k c.runs q)); index = refl }
   by-trailer k false q h = tt
 
-  by-head : (h : Head) → head_of (drop c.at s) ≡ h → Says s c (on_head c h)
+  by-head : (h : Option Head) → head_of (drop c.at s) ≡ h → Says s c (on_head c h)
   unfolding Says on_head
-  by-head Neither q = tt
-  by-head (Trailer k) q = by-trailer k (eqb k c.runs) refl q
-  by-head (Start st n) q = by-run st n (admits c st n) refl q
+  by-head None q = tt
+  by-head (Some (Trailer k)) q = by-trailer k (eqb k c.runs) refl q
+  by-head (Some (Start st n)) q = by-run st n (admits c st n) refl q
 
-  says : (w : Step) → step_at s c ≡ w → Says s c w
+  says : (w : Option Step) → step_at s c ≡ w → Says s c w
   unfolding step_at head_at
   says w e = subst (Says s c) e (by-head (head_of (drop c.at s)) refl)
 
-  pub step-next-inv : (st at n : ℕ) (c' : Cursor) → step_at s c ≡ Next st at n c' → TakenAt s c st at n c'
+  pub step-next-inv : (st at n : ℕ) (c' : Cursor) → step_at s c ≡ Some (Next st at n c') → TakenAt s c st at n c'
   unfolding Says
-  step-next-inv st at n c' e = says (Next st at n c') e
+  step-next-inv st at n c' e = says (Some (Next st at n c')) e
 
-  pub step-end-inv : (e : ℕ) → step_at s c ≡ End e → EndedAt s c e
+  pub step-end-inv : (e : ℕ) → step_at s c ≡ Some (End e) → EndedAt s c e
   unfolding Says
-  step-end-inv d e = says (End d) e
+  step-end-inv d e = says (Some (End d)) e
 
 -- a payload that was taken has its length
 pub taken-length : (s : List ℕ) (c : Cursor) (st at n : ℕ) (c' : Cursor) → TakenAt s c st at n c' → length (take n (drop at s)) ≡ n

@@ -5,6 +5,7 @@ use mathlib.Core.List.{List, [], ◌∷◌, ◌++◌, append-nil}
 use native.Mathlib.Omega.{arith}
 use native.Mathlib.Nat.{add-zero}
 use lib.ListN.{length, take, drop}
+use Rattle.std.specs.Prelude.{Option, Some, None}
 use Rattle.endian.specs.LittleEndian.{Bytes}
 use Rattle.writes.specs.Sets.{Run, run, payload}
 use Rattle.writes.specs.Sizes.{max_runs}
@@ -14,17 +15,17 @@ use Rattle.endian.proofs.Order.{absurdly}
 use Rattle.reading.specs.Reader.{past, step_at, Found, whole, broken, before, on_step, scan}
 use Rattle.reading.specs.Stops.{runs_in}
 use Rattle.reading.specs.declared.Step.{Step}
-use Rattle.reading.specs.declared.Step.TheVariants.{Next, End, Bad}
+use Rattle.reading.specs.declared.Step.TheVariants.{Next, End}
 use Rattle.reading.specs.declared.Cursor.{Cursor}
 use Rattle.reading.proofs.Steps.{step_end, step-next-inv, taken-length}
 use Rattle.reading.proofs.Scanning.{before-broken, Ahead, ahead_after, ahead-scan, taken-ahead, Stopped, Kept, kept_next}
 
 step-stopped : (f : ℕ) (s : List ℕ) (c : Cursor) (rs : List Run) (a : ℕ) → Bytes s → Kept c → max_runs < suc f + c.runs
     → ((c' : Cursor) (ts : List Run) → Kept c' → max_runs < f + c'.runs → scan f s c' ≡ broken ts a → Stopped s c' ts a)
-    → (w : Step) → step_at s c ≡ w → on_step (scan f s) s c w ≡ broken rs a → Stopped s c rs a
+    → (w : Option Step) → step_at s c ≡ w → on_step (scan f s) s c w ≡ broken rs a → Stopped s c rs a
 unfolding on_step runs_then payload past
-step-stopped f s c rs a hb h m ih (End e) q r = absurdly cc
-step-stopped f s c rs a hb h m ih Bad q r =
+step-stopped f s c rs a hb h m ih (Some (End e)) q r = absurdly cc
+step-stopped f s c rs a hb h m ih None q r =
     let er : [] ≡ rs = cc in
     let ea : c.at ≡ a = cc in
     subst (λ (z : List Run). Stopped s c z a) er
@@ -37,7 +38,7 @@ step-stopped f s c rs a hb h m ih Bad q r =
           let n = step_end s c [] b (omega (arith, h.few, runs_fit)) in
           absurdly cc;
     })
-step-stopped f s c rs a hb h m ih (Next st at n c') q r =
+step-stopped f s c rs a hb h m ih (Some (Next st at n c')) q r =
     let x : Run = run st (take n (drop at s)) in
     let b = before-broken x (scan f s c') rs a r in
     let ts = b.0 in

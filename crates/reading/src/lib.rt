@@ -2,23 +2,22 @@
 #![tactic(auto)]
 
 ghost use Rattle.std.specs.Prelude.{◌≡◌};
-ghost use Rattle.reading.specs.Reader.{head_at, admits, step_at, Stands, read_at};
+ghost use Rattle.reading.specs.Reader.{head_at, admits, past, step_at, Stands, from, read_at, Passes};
 ghost use Rattle.reading.specs.Stops.{stop_of, reading};
 
 pub const MAX_RUNS: usize = 512;
 
 pub const MAX_BYTES: usize = 1024;
 
-// What stands at an index, by its mark: a run whose bytes are all there, a trailer with its number of runs, or neither.
-#[derive(Clone, Copy)]
+// What stands at an index, by its mark: a run whose bytes are all there, or a trailer with its number of runs.
+#[derive(Debug, Clone, Copy, PartialEq, Eq)]
 pub enum Head {
     Start { start: u64, len: usize },
     Trailer { count: usize },
-    Neither,
 }
 
 // Where the reader stands, with the runs and payload bytes behind it and the last address that they write.
-#[derive(Clone, Copy)]
+#[derive(Debug, Clone, Copy, PartialEq, Eq)]
 pub struct Cursor {
     pub at: usize,
     pub runs: usize,
@@ -26,8 +25,35 @@ pub struct Cursor {
     pub last: u64,
 }
 
-// What one step finds: a run with its bytes at `from`, the trailer, or what can't be accepted.
-#[derive(Clone, Copy)]
+impl Cursor {
+    // At an index, with nothing behind it.
+    pub fn start(at: usize) -> Cursor
+        ensures { result ≡ from at }
+    {
+        Cursor {
+            at,
+            runs: 0,
+            bytes: 0,
+            last: 0,
+        }
+    }
+
+    // Behind the run of `len` bytes that stands at the cursor.
+    fn past(self, start: u64, len: usize) -> Cursor
+        requires { Passes self start len }
+        ensures { result ≡ past self start len }
+    {
+        Cursor {
+            at: self.at + 12 + len,
+            runs: self.runs + 1,
+            bytes: self.bytes + len,
+            last: start + (len as u64 - 1),
+        }
+    }
+}
+
+// What one step finds: a run with its bytes at `from`, or the trailer.
+#[derive(Debug, Clone, Copy, PartialEq, Eq)]
 pub enum Step {
     Next {
         start: u64,
@@ -38,67 +64,56 @@ pub enum Step {
     End {
         end: usize,
     },
-    Bad,
 }
 
-// Where all steps end, with the runs and payload bytes behind it and the last address that they write, and whether a trailer stands
-// there. Numbers that are answered together don't stand side by side: one wide load of both would wait for their two stores.
-#[derive(Clone, Copy)]
-pub struct Stop {
-    pub ended: bool,
+// A patch that was read: where its trailer stands and where it ends, with its runs and payload bytes.
+#[derive(Debug, Clone, Copy, PartialEq, Eq)]
+pub struct Whole {
+    pub at: usize,
+    pub end: usize,
     pub runs: usize,
-    pub last: u64,
     pub bytes: usize,
+}
+
+// How many runs are whole and acceptable, and the index where what follows them can't be accepted.
+#[derive(Debug, Clone, Copy, PartialEq, Eq)]
+pub struct Broken {
+    pub runs: usize,
     pub at: usize,
 }
 
-// What all steps find: a patch with its trailer at `at`, or where what follows the runs can't be accepted.
-#[derive(Clone, Copy)]
-pub enum Reading {
-    Whole {
-        at: usize,
-        end: usize,
-        runs: usize,
-        bytes: usize,
-    },
-    Broken {
-        runs: usize,
-        at: usize,
-    },
-}
-
-fn head_at(s: &[u8], at: usize) -> Head
+fn head_at(s: &[u8], at: usize) -> Option<Head>
     ensures { result ≡ head_at s.now at }
 {
     if s.len() < at {
-        return Head::Neither;
+        return None;
     }
     let left = s.len() - at;
     if left < 4 {
-        return Head::Neither;
+        return None;
     }
     if s[at] != 0x50 {
-        return Head::Neither;
+        return None;
     }
     if s[at + 1] == 0x45 {
-        return Head::Trailer {
+        return Some(Head::Trailer {
             count: endian::le16(s, at + 2) as usize,
-        };
+        });
     }
     if s[at + 1] != 0x52 {
-        return Head::Neither;
+        return None;
     }
     if left < 12 {
-        return Head::Neither;
+        return None;
     }
     let len = endian::le16(s, at + 10) as usize;
     if left - 12 < len {
-        return Head::Neither;
+        return None;
     }
-    Head::Start {
+    Some(Head::Start {
         start: endian::le64(s, at + 2),
         len,
-    }
+    })
 }
 
 // Whether a run may come next: not empty, within the sizes, not past 2^64, and a gap after the one before.
@@ -135,51 +150,39 @@ fn admitted(c: Cursor, start: u64, len: usize) -> bool
     true
 }
 
-// One step of reading.
-pub fn step_at(s: &[u8], c: Cursor) -> Step
+// One step of reading; none where what stands at the cursor can't be accepted.
+pub fn step_at(s: &[u8], c: Cursor) -> Option<Step>
     ensures { result ≡ step_at s.now c }
 {
-    let at = c.at;
-    let runs = c.runs;
-    let bytes = c.bytes;
-    let h = head_at(s, at);
-    match h {
-        Head::Neither => Step::Bad,
+    match head_at(s, c.at)? {
         Head::Trailer { count } => {
-            if count == runs {
-                Step::End { end: at + 4 }
+            if count == c.runs {
+                Some(Step::End { end: c.at + 4 })
             } else {
-                Step::Bad
+                None
             }
         }
         Head::Start { start, len } => {
             if admitted(c, start, len) {
-                Step::Next {
+                Some(Step::Next {
                     start,
-                    from: at + 12,
+                    from: c.at + 12,
                     len,
-                    next: Cursor {
-                        at: at + 12 + len,
-                        runs: runs + 1,
-                        bytes: bytes + len,
-                        last: start + (len as u64 - 1),
-                    },
-                }
+                    next: c.past(start, len),
+                })
             } else {
-                Step::Bad
+                None
             }
         }
     }
 }
 
-// The same step where it isn't bad, as of a string that was judged: the mark alone is looked at.
+// The same step where there is one, as of a string that was judged: the mark alone is looked at.
 pub fn step_on(s: &[u8], c: Cursor) -> Step
     requires { Stands s.now c }
-    ensures { result ≡ step_at s.now c }
+    ensures { Some result ≡ step_at s.now c }
 {
     let at = c.at;
-    let runs = c.runs;
-    let bytes = c.bytes;
     let mark = s[at + 1];
     if mark == 0x45 {
         return Step::End { end: at + 4 };
@@ -190,52 +193,31 @@ pub fn step_on(s: &[u8], c: Cursor) -> Step
         start,
         from: at + 12,
         len,
-        next: Cursor {
-            at: at + 12 + len,
-            runs: runs + 1,
-            bytes: bytes + len,
-            last: start + (len as u64 - 1),
-        },
+        next: c.past(start, len),
     }
 }
 
-// All steps from index `at` on.
-pub fn walk(s: &[u8], at: usize) -> Stop
+// All steps from index `at` on: to the trailer, or to what can't be accepted.
+pub fn walk(s: &[u8], at: usize) -> Result<Cursor, Cursor>
     ensures { result ≡ stop_of (read_at s.now at) }
 {
-    let mut c = Cursor {
-        at,
-        runs: 0,
-        bytes: 0,
-        last: 0,
-    };
+    let mut c = Cursor::start(at);
     loop {
-        let w = step_at(s, c);
-        match w {
-            Step::Bad => {
-                return Stop {
-                    ended: false,
-                    runs: c.runs,
-                    last: c.last,
-                    bytes: c.bytes,
-                    at: c.at,
-                };
+        match step_at(s, c) {
+            None => {
+                return Err(c);
             }
-            Step::End { end: _ } => {
-                return Stop {
-                    ended: true,
-                    runs: c.runs,
-                    last: c.last,
-                    bytes: c.bytes,
-                    at: c.at,
-                };
+            Some(Step::End { end: _ }) => {
+                return Ok(c);
             }
-            Step::Next {
-                start: _,
-                from: _,
-                len: _,
-                next,
-            } => {
+            Some(
+                Step::Next {
+                    start: _,
+                    from: _,
+                    len: _,
+                    next,
+                },
+            ) => {
                 c = next;
             }
         }
@@ -243,21 +225,19 @@ pub fn walk(s: &[u8], at: usize) -> Stop
 }
 
 // The patch that starts at index `at`.
-pub fn read(s: &[u8], at: usize) -> Reading
+pub fn read(s: &[u8], at: usize) -> Result<Whole, Broken>
     ensures { result ≡ reading (read_at s.now at) }
 {
-    let w = walk(s, at);
-    if w.ended {
-        Reading::Whole {
-            at: w.at,
-            end: w.at + 4,
-            runs: w.runs,
-            bytes: w.bytes,
-        }
-    } else {
-        Reading::Broken {
-            runs: w.runs,
-            at: w.at,
-        }
+    match walk(s, at) {
+        Ok(c) => Ok(Whole {
+            at: c.at,
+            end: c.at + 4,
+            runs: c.runs,
+            bytes: c.bytes,
+        }),
+        Err(c) => Err(Broken {
+            runs: c.runs,
+            at: c.at,
+        }),
     }
 }

@@ -1,17 +1,19 @@
 -- The promises of two functions that make the calls themselves: their whole outcomes, and the two sentences of demand 3 that speak of
 -- several calls.
 -- Assumes nothing.
-use Rattle.std.specs.Prelude.{ℕ, Bool, true, false, List, ◌↔◌, ◌≡◌, length, take}
-use Rattle.elements.specs.Machine.{Machine}
-use Rattle.verdicts.specs.Verdicts.{number}
+use Rattle.std.specs.Prelude.{ℕ, Bool, true, false, List, ◌↔◌, ◌≡◌, length, take, Ok, Err}
+use Rattle.elements.specs.Machine.{Machine, lent}
+use Rattle.verdicts.specs.Verdicts.{number, Verdict}
 use Rattle.verdicts.specs.declared.Flags.{Flags}
-use Rattle.verdicts.specs.declared.Verdict.{Verdict}
-use Rattle.verdicts.specs.declared.Verdict.TheVariants.{Done, Refused}
 use Rattle.outcomes.specs.Storing.{Stored}
 use Rattle.patch.specs.Answers.{applied_number}
-use Rattle.patch.specs.Applying.{AppliedTo}
-use Rattle.patch.specs.declared.Applied.{Applied}
+use Rattle.patch.specs.Applying.{Applied, AppliedTo}
+use Rattle.replaying.specs.declared.call.Call.{Call}
 use Rattle.demands.specs.Demand3.{NoneDue, HasRoom, LeaveTheSame}
+
+-- the machine that a call runs on
+abbrev pub machine_of : Call → Machine
+machine_of c = lent c.machine
 
 -- applying s to the window of m at W leaves m', and r says whether it was done
 pub record AppliedIf (W : ℕ) (m s : List ℕ) (r : Bool) (m' : List ℕ) : Type 0 where
@@ -22,8 +24,8 @@ pub record AppliedIf (W : ℕ) (m s : List ℕ) (r : Bool) (m' : List ℕ) : Typ
 -- where a store was done, its patch was applied to the window of `target` at W, and the answer says whether that was done; otherwise
 -- nothing was applied
 abbrev pub ThenApplied : Verdict → ℕ → List ℕ → List ℕ → Bool → List ℕ → Type 0
-ThenApplied (Done n b k t) W buffer target r target' = AppliedIf W target (take k buffer) r target'
-ThenApplied (Refused x) W buffer target r target' = (r ≡ false) × (target' ≡ target)
+ThenApplied (Ok d) W buffer target r target' = AppliedIf W target (take d.length buffer) r target'
+ThenApplied (Err x) W buffer target r target' = (r ≡ false) × (target' ≡ target)
 
 -- a store over the window of `mem`, the same store over that of `other`, and the first one's patch applied to that of `target`
 pub record Replayed (f : Flags) (m : Machine) (W : ℕ) (mem other target : List ℕ) (word : ℕ) (buffer scratch : List ℕ) (r : Bool)
@@ -40,8 +42,8 @@ pub record Replayed (f : Flags) (m : Machine) (W : ℕ) (mem other target : List
 
 -- the reported length; 0 where a store is refused
 abbrev pub length_of : Verdict → ℕ
-length_of (Done n b k t) = k
-length_of (Refused x) = 0
+length_of (Ok d) = d.length
+length_of (Err x) = 0
 
 -- two stores over windows at one address, and their patches compared
 pub record Compared (W : ℕ) (f : Flags) (m : Machine) (mem : List ℕ) (word : ℕ) (f₁ : Flags) (m₁ : Machine) (mem₁ : List ℕ) (word₁ : ℕ)

@@ -16,9 +16,9 @@ use Rattle.verdicts.specs.Verdicts.{patch_of, one_of_five, length_ok, registers_
 use Rattle.starred.specs.Cases.{cases, StarredCases}
 
 pub starred-cases : StarredCases
-unfolding classes class_at position any every_below inside belongs has multiple_of store_of index_of decode_of row_of le_val le_bytes join runs
-    writes_at overwritten written below from splice splice_all run_then runs_then trailer encode_runs encode window_ok in_window outside_from bit_at
-    lowest_set lowest highest count_in
-    mask_bit active_at element_at actives elements patch_of one_of_five length_ok registers_ok first_outside decided verdict_of steps_from
-    covers_some shares_with overlap_from cases
+unfolding classes class_at position any every_below inside belongs has multiple_of store_of index_of decode_of row_of le_val
+    le_bytes join runs writes_at overwritten written below from splice splice_all run_then runs_then trailer encode_runs encode
+    window_ok in_window outside_from bit_at lowest_set lowest highest count_in mask_bit active_at element_at actives elements
+    patch_of one_of_five length_ok registers_ok first_outside decided verdict_of steps_from covers_some shares_with overlap_from
+    cases
 starred-cases = refl

@@ -1,4 +1,5 @@
 -- The whole example: what is due and the patches by computation, the rest by demand 3. Assumes nothing.
+use Rattle.std.specs.Prelude.{Err}
 use mathlib.Core.Path.{◌≡◌, refl, ◌∙◌, subst}
 use mathlib.Core.List.{List, [], ◌∷◌}
 use Prim.Native.Nat.{ℕ, ◌≤◌}
@@ -19,10 +20,9 @@ use Rattle.window.specs.Window.{window_ok, in_window}
 use Rattle.elements.specs.Machine.{Machine, bit_at}
 use Rattle.elements.specs.Counter.{lowest_set, highest, count_in, mask_bit}
 use Rattle.elements.specs.Elements.{active_at, element_at, actives, elements}
-use Rattle.verdicts.specs.Verdicts.{patch_of, one_of_five, length_ok, registers_ok, first_outside, decided, verdict_of}
+use Rattle.verdicts.specs.Verdicts.{patch_of, one_of_five, length_ok, registers_ok, first_outside, decided, verdict_of, done}
 use Rattle.verdicts.specs.declared.Flags.{Flags}
 use Rattle.verdicts.specs.declared.Refusal.TheVariants.{Length}
-use Rattle.verdicts.specs.declared.Verdict.TheVariants.{Done, Refused}
 use Rattle.demands.specs.Demand3.{NoneDue, DoneOver, patch_for}
 use Rattle.demands.proofs.Demand3.{filled, demand3}
 use Rattle.starred.specs.Cases.{plain, streaming}
@@ -45,34 +45,37 @@ lent = (are-bytes first.z tt, are-bytes second.z tt, are-bytes idle.z tt, are-by
 -- ---- computed
 
 due : NoneDue plain first 0x1000 6 word × NoneDue plain second 0x1000 6 word × NoneDue plain idle 0x1000 0 word
-unfolding classes class_at position any every_below inside belongs has store_of index_of decode_of row_of le_val window_ok in_window bit_at active_at
-    element_at actives elements one_of_five length_ok registers_ok first_outside
+unfolding classes class_at position any every_below inside belongs has store_of index_of decode_of row_of le_val window_ok in_window
+    bit_at active_at element_at actives elements one_of_five length_ok registers_ok first_outside
 due = (
   (refl, (refl, (refl, (refl, (refl, (refl, (refl, (refl, tt)))))))),
   (refl, (refl, (refl, (refl, (refl, (refl, (refl, (refl, tt)))))))),
   (refl, (refl, (refl, (refl, (refl, (refl, (refl, (refl, tt)))))))),
 )
 
-strings : (patch_for first word ≡ example_patch) × (patch_for second word ≡ example_patch) × (patch_for idle word ≡ 0x50 ∷ 0x45 ∷ 0 ∷ 0 ∷ [])
-unfolding classes class_at position any every_below inside belongs has store_of index_of decode_of row_of le_val bit_at active_at element_at actives
-    elements patch_of splice_all splice below from writes_at encode encode_runs runs_then run_then trailer runs join le_bytes
+strings : (patch_for first word ≡ example_patch) × (patch_for second word ≡ example_patch)
+    × (patch_for idle word ≡ 0x50 ∷ 0x45 ∷ 0 ∷ 0 ∷ [])
+unfolding classes class_at position any every_below inside belongs has store_of index_of decode_of row_of le_val bit_at active_at
+    element_at actives elements patch_of splice_all splice below from writes_at encode encode_runs runs_then run_then trailer runs
+    join le_bytes
 strings = (refl, refl, refl)
 
-counted : verdict_of plain first 0x1000 6 word 31 ≡ Done 4 4 31 3
-unfolding classes class_at position any every_below inside belongs has store_of index_of decode_of row_of le_val window_ok in_window bit_at active_at
-    element_at actives elements patch_of splice_all splice below from writes_at encode encode_runs runs_then run_then trailer runs join le_bytes
-    one_of_five length_ok registers_ok first_outside decided verdict_of steps_from
+counted : verdict_of plain first 0x1000 6 word 31 ≡ done 4 4 31 3
+unfolding classes class_at position any every_below inside belongs has store_of index_of decode_of row_of le_val window_ok in_window
+    bit_at active_at element_at actives elements patch_of splice_all splice below from writes_at encode encode_runs runs_then
+    run_then trailer runs join le_bytes one_of_five length_ok registers_ok first_outside decided verdict_of steps_from
 counted = refl
 
 largest-due : NoneDue streaming largest 0x1000 1023 0xA1608000
-unfolding classes class_at position any every_below inside belongs has multiple_of store_of index_of decode_of row_of le_val window_ok in_window
-    lowest_set lowest highest count_in mask_bit active_at element_at actives elements one_of_five length_ok registers_ok first_outside
+unfolding classes class_at position any every_below inside belongs has multiple_of store_of index_of decode_of row_of le_val
+    window_ok in_window lowest_set lowest highest count_in mask_bit active_at element_at actives elements one_of_five length_ok
+    registers_ok first_outside
 largest-due = (refl, (refl, (refl, (refl, (refl, (refl, (refl, (refl, tt))))))))
 
 largest-length : length (patch_for largest 0xA1608000) ≡ 6660
-unfolding classes class_at position any every_below inside belongs has multiple_of store_of index_of decode_of row_of le_val lowest_set lowest
-    highest count_in mask_bit active_at element_at actives elements patch_of splice_all splice below from writes_at encode encode_runs runs_then
-    run_then trailer runs join le_bytes
+unfolding classes class_at position any every_below inside belongs has multiple_of store_of index_of decode_of row_of le_val
+    lowest_set lowest highest count_in mask_bit active_at element_at actives elements patch_of splice_all splice below from
+    writes_at encode encode_runs runs_then run_then trailer runs join le_bytes
 largest-length = refl
 
 -- ---- by demand 3
@@ -112,19 +115,20 @@ whole-example =
 -- ---- document 02 (vi)
 
 older-due : NoneDue older twelve 0x1000 6 word
-unfolding classes class_at position any every_below inside belongs has store_of index_of decode_of row_of le_val window_ok in_window bit_at active_at
-    element_at actives elements one_of_five length_ok registers_ok first_outside
+unfolding classes class_at position any every_below inside belongs has store_of index_of decode_of row_of le_val window_ok in_window
+    bit_at active_at element_at actives elements one_of_five length_ok registers_ok first_outside
 older-due = (refl, (refl, (refl, (refl, (refl, (refl, (refl, (refl, tt))))))))
 
 older-string : patch_for twelve word ≡ example_patch
-unfolding classes class_at position any every_below inside belongs has store_of index_of decode_of row_of le_val bit_at active_at element_at actives
-    elements patch_of splice_all splice below from writes_at encode encode_runs runs_then run_then trailer runs join le_bytes
+unfolding classes class_at position any every_below inside belongs has store_of index_of decode_of row_of le_val bit_at active_at
+    element_at actives elements patch_of splice_all splice below from writes_at encode encode_runs runs_then run_then trailer runs
+    join le_bytes
 older-string = refl
 
-older-counted : (verdict_of older twelve 0x1000 6 word 31 ≡ Done 4 4 31 3) × (verdict_of plain twelve 0x1000 6 word 31 ≡ Refused Length)
-unfolding classes class_at position any every_below inside belongs has store_of index_of decode_of row_of le_val window_ok in_window bit_at active_at
-    element_at actives elements patch_of splice_all splice below from writes_at encode encode_runs runs_then run_then trailer runs join le_bytes
-    one_of_five length_ok registers_ok first_outside decided verdict_of steps_from
+older-counted : (verdict_of older twelve 0x1000 6 word 31 ≡ done 4 4 31 3) × (verdict_of plain twelve 0x1000 6 word 31 ≡ Err Length)
+unfolding classes class_at position any every_below inside belongs has store_of index_of decode_of row_of le_val window_ok in_window
+    bit_at active_at element_at actives elements patch_of splice_all splice below from writes_at encode encode_runs runs_then
+    run_then trailer runs join le_bytes one_of_five length_ok registers_ok first_outside decided verdict_of steps_from
 older-counted = (refl, refl)
 
 pub both-editions : BothEditions

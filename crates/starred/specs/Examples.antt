@@ -1,12 +1,11 @@
 -- Document 01's whole example: two stores of this model, done over one window, through demand 3. Its proof is `whole-example` in
 -- proofs/Examples.antt. Assumes nothing.
-use Rattle.std.specs.Prelude.{ℕ, ◌≤◌, true, false, List, [], ◌∷◌, ◌++◌, ◌≡◌, length, replicate}
+use Rattle.std.specs.Prelude.{ℕ, ◌≤◌, true, false, List, [], ◌∷◌, ◌++◌, ◌≡◌, length, replicate, Err}
 use Rattle.writes.specs.Examples.{example_patch}
 use Rattle.elements.specs.Machine.{Machine, machine}
-use Rattle.verdicts.specs.Verdicts.{verdict_of}
+use Rattle.verdicts.specs.Verdicts.{verdict_of, done}
 use Rattle.verdicts.specs.declared.Flags.{Flags}
 use Rattle.verdicts.specs.declared.Refusal.TheVariants.{Length}
-use Rattle.verdicts.specs.declared.Verdict.TheVariants.{Done, Refused}
 use Rattle.demands.specs.Demand3.{DoneOver, Filling, patch_for, HandsOut, LeaveTheSame}
 use Rattle.starred.specs.Cases.{plain, streaming}
 
@@ -46,7 +45,7 @@ pub record WholeExample : Type 0 where
   pub second_done : DoneOver plain second 0x1000 6 word
   -- "Four elements, four bytes moved, and the patch is 31 bytes", in a buffer of just as many; of the four, one starts where the one
   -- before it ends: three steps
-  pub counted : verdict_of plain first 0x1000 6 word 31 ≡ Done 4 4 31 3
+  pub counted : verdict_of plain first 0x1000 6 word 31 ≡ done 4 4 31 3
   pub first_patch : Hands first 6 example_patch
   -- the second store gives "the same patch", so that both leave the same memory from every filling
   pub second_patch : Hands second 6 example_patch
@@ -84,12 +83,12 @@ twelve =
 pub record BothEditions : Type 0 where
   pub early_done : DoneOver older twelve 0x1000 6 word
   pub late_done : DoneOver plain first 0x1000 6 word
-  pub early_counted : verdict_of older twelve 0x1000 6 word 31 ≡ Done 4 4 31 3
+  pub early_counted : verdict_of older twelve 0x1000 6 word 31 ≡ done 4 4 31 3
   pub early_patch : HandsOn older twelve 6 example_patch
   pub late_patch : HandsOn plain first 6 example_patch
   pub same_memory : LeaveTheSame 0x1000 6 older twelve word plain first word
   -- under the late edition the first is refused with 1
-  pub refused : verdict_of plain twelve 0x1000 6 word 31 ≡ Refused Length
+  pub refused : verdict_of plain twelve 0x1000 6 word 31 ≡ Err Length
 
 -- "A byte store under a halfword counter writes every second byte, so 512 runs can occur"; "the largest store patch is 6,660 bytes"
 -- (document 02 (vii)): class 28 at VB 256 with all of its counter's elements active (8002h in P8)

@@ -20,10 +20,10 @@ ghost use Rattle.outcomes.specs.Storing.{Stored, numbers};
 ghost use Rattle.numbers.specs.Flags.{flags_of};
 ghost use Rattle.starshackle.specs.Interface.{Answers};
 
-use comparing::Compared;
-use encoding::{Decoded, Encoded};
+use comparing::CompareError;
+use elements::Machine;
 use numbers::{answered, flags_of};
-use patch::{Applied, Judged};
+use patch::{ApplyError, NoPatch, Size};
 
 // What a word is: 0 and its store as eight numbers, or 4 and zeros.
 #[unsafe(no_mangle)]
@@ -31,11 +31,11 @@ pub extern "C" fn starshackle_decode(word: u32, fields: &mut [u64; 8]) -> u64
     ensures { Answers (λ d. d ≡ decode_of word) decoded_number decoded_numbers result fields.new }
 {
     match encoding::decode(word) {
-        Decoded::Known(store) => {
+        Some(store) => {
             *fields = codec::numbers_of(store);
             0
         }
-        Decoded::Undefined => {
+        None => {
             *fields = [0; 8];
             4
         }
@@ -48,11 +48,11 @@ pub extern "C" fn starshackle_encode(fields: &[u64; 8], answer: &mut [u64; 5]) -
     ensures { Answers (λ e. e ≡ encode_given fields.now) encoded_number encoded_answers result answer.new }
 {
     match codec::encode_given(fields) {
-        Encoded::Word(word) => {
+        Some(word) => {
             *answer = [0, 0, 0, 0, word as u64];
             0
         }
-        Encoded::Fields => {
+        None => {
             *answer = [0; 5];
             11
         }
@@ -81,7 +81,8 @@ pub extern "C" fn starshackle_store(
         memory.old word patch.old v memory.new patch.new)
         number numbers result answer.new }
 {
-    let v = storing::store(vb, flags_of(flags), x, sp, z, p, base, memory, word, patch);
+    let machine = Machine { vb, x, sp, z, p };
+    let v = storing::store(machine, flags_of(flags), base, memory, word, patch);
     answered(v, answer)
 }
 
@@ -102,7 +103,8 @@ pub extern "C" fn starshackle_element(
     ensures { Answers (λ i. i ≡ inspected_of (flags_of flags) (machine vb x.now sp z.now p.now) word e)
         inspected_number inspected_answers result answer.new }
 {
-    let inspected = inspection::inspect(vb, flags_of(flags), x, sp, z, p, word, e);
+    let machine = Machine { vb, x, sp, z, p };
+    let inspected = inspection::inspect(machine, flags_of(flags), word, e);
     *answer = inspecting::answers_of(inspected);
     inspecting::number_of(inspected)
 }
@@ -120,19 +122,19 @@ pub extern "C" fn starshackle_apply(
         applied_number applied_numbers result answer.new }
 {
     match patch::apply(base, memory, patch) {
-        Applied::Done { runs, bytes } => {
+        Ok(Size { runs, bytes }) => {
             *answer = [0, 0, runs as u64, bytes as u64, 0];
             0
         }
-        Applied::Window => {
+        Err(ApplyError::Window) => {
             *answer = [0; 5];
             3
         }
-        Applied::BadPatch => {
+        Err(ApplyError::BadPatch) => {
             *answer = [0; 5];
             9
         }
-        Applied::Outside { run, address } => {
+        Err(ApplyError::Outside { run, address }) => {
             *answer = [run as u64, address, 0, 0, 0];
             10
         }
@@ -146,11 +148,11 @@ pub extern "C" fn starshackle_judge(patch: &[u8], answer: &mut [u64; 5]) -> u64
     ensures { Answers (λ j. j ≡ judged patch.now) judged_number judged_numbers result answer.new }
 {
     match patch::judge(patch) {
-        Judged::Patch { runs, bytes } => {
+        Ok(Size { runs, bytes }) => {
             *answer = [0, 0, runs as u64, bytes as u64, 0];
             0
         }
-        Judged::NoPatch { runs, at } => {
+        Err(NoPatch { runs, at }) => {
             *answer = [runs as u64, at as u64, 0, 0, 0];
             9
         }
@@ -171,19 +173,19 @@ pub extern "C" fn starshackle_compare(
         compared_number compared_numbers result answer.new }
 {
     match comparing::compare(first, second, list) {
-        Compared::Done { entries } => {
+        Ok(entries) => {
             *answer = [0, 0, entries as u64, 0, 0];
             0
         }
-        Compared::NoRoom { needed } => {
+        Err(CompareError::NoRoom { needed }) => {
             *answer = [0, 0, needed as u64, 0, 0];
             8
         }
-        Compared::FirstBad => {
+        Err(CompareError::FirstBad) => {
             *answer = [0; 5];
             9
         }
-        Compared::SecondBad => {
+        Err(CompareError::SecondBad) => {
             *answer = [1, 0, 0, 0, 0];
             9
         }

@@ -1,51 +1,17 @@
--- What joined keys keep: the addresses, the bytes, the order of numbers, the window. Assumes nothing.
+-- What joined keys keep: the addresses, the bytes, the window. Assumes nothing.
 use mathlib.Core.Path.{◌≡◌, refl, sym, ap, ap₂, ◌∙◌, subst}
-use Prim.Native.Nat.{ℕ, suc, ◌+◌, ◌-◌, ◌*◌, ◌≤◌, ◌<◌}
+use Prim.Native.Nat.{ℕ, ◌+◌, ◌-◌, ◌*◌, ◌≤◌}
 use mathlib.Core.Bool.{Bool}
 use mathlib.Core.List.{List, [], ◌∷◌}
-use native.Mathlib.Nat.{suc-mul}
 use native.Mathlib.Omega.{arith}
 use lib.ListN.{length}
-use Rattle.endian.proofs.Order.{two, three}
-use Rattle.ordering.specs.Keys.{number_of, filed, sorted, Each, Distinct}
-use Rattle.ordering.proofs.Sorting.{Up, filed-past, filed-here, sorted-each, up-sorted}
+use Rattle.endian.proofs.Order.{two}
+use Rattle.ordering.specs.Keys.{filed, sorted, Each}
+use Rattle.ordering.proofs.Sorting.{Asc, filed-past, filed-here, sorted-each, sorted_asc}
 use Rattle.stretches.proofs.Covering.{among, or, hull, or_assoc, or_swap}
 use Rattle.stretches.specs.Stretches.{start_of, bytes_of, end_of, joined_from, joined, sum, Rising}
 use Rattle.stretches.proofs.Merging.{some}
-use Rattle.stretches.proofs.Joining.{grown-start, grown-bytes, grown-number, joined-on, joined-new}
-
-pub same_or : {X : Type 0} (a b : ℕ) → (a ≡ b → X) → ((a ≡ b → ⊥) → X) → X
-same_or a b f g = three a b (λ l. g (λ e. omega arith)) f (λ l. g (λ e. omega arith))
-
--- ---- stretch s ends with the key `last`, and has room for the keys to come
-
-pub record Open (size s last : ℕ) (K : List ℕ) : Type 0 where
-  pub end : start_of s + bytes_of s ≡ start_of last + size
-  pub fit : bytes_of s + length K * size ≤ 256
-  pub each : Each (λ k. bytes_of k ≡ size) K
-
-module _ (size k : ℕ) (K : List ℕ) where
-  m : suc (length K) * size ≡ length K * size + size
-  m = suc-mul (length K) size
-
-  pub open-first : bytes_of k ≡ size → Each (λ k. bytes_of k ≡ size) K → suc (length K) * size ≤ 256 → Open size k k K
-  open-first b e h = record { end = omega arith; fit = omega (arith, m); each = e }
-
-  module _ (s last : ℕ) (o : Open size s last (k ∷ K)) where
-    pub small : bytes_of s + size ≤ 256
-    small = omega (arith, o.fit, m)
-
-    pub open-on : start_of last + size ≡ start_of k → Open size (s + size * 256) k K
-    open-on h =
-        let e0 : bytes_of k ≡ size = o.each.0 in
-        record {
-          end = omega (arith, grown-start s size small, grown-bytes s size small, o.end);
-          fit = omega (arith, grown-bytes s size small, o.fit, m);
-          each = o.each.1;
-        }
-
-    pub open-new : Open size k k K
-    open-new = open-first o.each.0 o.each.1 (omega (arith, o.fit))
+use Rattle.stretches.proofs.Joining.{grown-start, grown-bytes, joined-on, joined-new, same_or, Open, open-first, open-on, open-new, small, count-next}
 
 -- ---- the bytes of all
 
@@ -62,16 +28,16 @@ module _ (size : ℕ) where
         ap sum (joined-on size s last k K h),
         sum-from (s + size * 256) k K (open-on size k K s last o h),
         grown-bytes s size (small size k K s last o),
-        m size k K,
+        count-next size k K,
       ))
-      (λ h. omega (arith, ap sum (joined-new size s last k K h), sum-from k k K (open-new size k K s last o), m size k K))
+      (λ h. omega (arith, ap sum (joined-new size s last k K h), sum-from k k K (open-new size k K s last o), count-next size k K))
 
   pub sum-joined : (K : List ℕ) → Each (λ k. bytes_of k ≡ size) K → length K * size ≤ 256 → sum (joined size K) ≡ length K * size
   unfolding joined sum
   sum-joined [] e h = omega arith
   sum-joined (k ∷ K) e h =
       let e0 : bytes_of k ≡ size = e.0 in
-      omega (arith, sum-from k k K (open-first size k K e.0 e.1 h), m size k K)
+      omega (arith, sum-from k k K (open-first size k K e.0 e.1 h), count-next size k K)
 
 -- ---- the window
 
@@ -95,42 +61,6 @@ module _ (size L : ℕ) where
   unfolding joined
   inside-joined [] e h i = tt
   inside-joined (k ∷ K) e h i = inside-from k k K (open-first size k K e.0 e.1 h) i.0 i.1
-
--- ---- numbers ascend, so that stretches are distinct
-
-abbrev pub Numbers : ℕ → List ℕ → Type 0
-Numbers f [] = Unit {0}
-Numbers f (k ∷ K) = (f ≤ number_of k) × Numbers (suc (number_of k)) K
-
-module _ (size : ℕ) where
-  numbers-from : (f s last : ℕ) (K : List ℕ) → Open size s last K → f ≤ number_of s → number_of s ≤ number_of last
-      → Numbers (suc (number_of last)) K
-      → Numbers f (joined_from size s last K)
-  unfolding joined_from
-  numbers-from f s last [] o h l n = (h, tt)
-  numbers-from f s last (k ∷ K) o h l n =
-      let n0 : suc (number_of last) ≤ number_of k = n.0 in
-      same_or (start_of last + size) (start_of k)
-      (λ q.
-      let g = grown-number s size (small size k K s last o) in
-      subst (Numbers f) (sym (joined-on size s last k K q))
-      (numbers-from f (s + size * 256) k K (open-on size k K s last o q) (omega arith) (omega arith) n.1))
-      (λ q.
-      subst (Numbers f) (sym (joined-new size s last k K q))
-      (h, numbers-from (suc (number_of s)) k k K (open-new size k K s last o) (omega arith) (omega arith) n.1))
-
-  pub numbers-joined : (K : List ℕ) → Each (λ k. bytes_of k ≡ size) K → length K * size ≤ 256 → Numbers 0 K → Numbers 0 (joined size K)
-  unfolding joined
-  numbers-joined [] e h n = tt
-  numbers-joined (k ∷ K) e h n = numbers-from 0 k k K (open-first size k K e.0 e.1 h) (omega arith) (omega arith) n.1
-
-others : (f k : ℕ) (K : List ℕ) → number_of k < f → Numbers f K → Each (λ x. number_of k ≡ number_of x → ⊥) K
-others f k [] h n = tt
-others f k (x ∷ K) h n = let n0 : f ≤ number_of x = n.0 in (λ e. omega arith, others (suc (number_of x)) k K (omega arith) n.1)
-
-pub distinct-numbers : (f : ℕ) (K : List ℕ) → Numbers f K → Distinct K
-distinct-numbers f [] n = tt
-distinct-numbers f (k ∷ K) n = (others (suc (number_of k)) k K (omega arith) n.1, distinct-numbers (suc (number_of k)) K n.1)
 
 -- ---- the addresses
 
@@ -199,11 +129,11 @@ unfolding sorted sum
 sum-sorted [] = refl
 sum-sorted (k ∷ K) = sum-filed k (sorted K) ∙ ap (λ (z : ℕ). bytes_of k + z) (sum-sorted K)
 
-rising-up : (L f p : ℕ) (K : List ℕ) → p ≤ start_of f → Each (λ k. end_of k ≤ L) K → Up f K → Rising L p K
+rising-up : (L f p : ℕ) (K : List ℕ) → p ≤ start_of f → Each (λ k. end_of k ≤ L) K → Asc f K → Rising L p K
 rising-up L f p [] h i u = tt
 rising-up L f p (k ∷ K) h i u =
     let u0 : f ≤ k = u.0 in
-    (omega arith, i.0, rising-up L (suc k) (start_of k) K (omega arith) i.1 u.1)
+    (omega arith, i.0, rising-up L k (start_of k) K (omega arith) i.1 u.1)
 
-pub rising-sorted : (L : ℕ) (K : List ℕ) → Each (λ k. end_of k ≤ L) K → Distinct K → Rising L 0 (sorted K)
-rising-sorted L K i d = rising-up L 0 0 (sorted K) (omega arith) (sorted-each (λ k. end_of k ≤ L) K i) (up-sorted K d)
+pub rising-sorted : (L : ℕ) (K : List ℕ) → Each (λ k. end_of k ≤ L) K → Rising L 0 (sorted K)
+rising-sorted L K i = rising-up L 0 0 (sorted K) (omega arith) (sorted-each (λ k. end_of k ≤ L) K i) (sorted_asc K)

@@ -1,19 +1,18 @@
 -- Keys joined, one after another. Assumes nothing.
 use mathlib.Core.Path.{◌≡◌, refl, sym, ap, ap₂, ◌∙◌, subst}
 use mathlib.Core.Bool.{Bool, true, false, cond, ◌&&◌}
-use Prim.Native.Nat.{ℕ, zero, suc, ◌+◌, ◌-◌, ◌*◌, ◌/◌, ◌%◌, ◌≤◌, ◌<◌}
+use Prim.Native.Nat.{ℕ, zero, suc, ◌+◌, ◌-◌, ◌*◌, ◌/◌, ◌≤◌, ◌<◌}
 use mathlib.Core.List.{List, [], ◌∷◌, ◌++◌, append_assoc}
-use native.Mathlib.Nat.{suc-mul, mul-le-mul_right}
+use native.Mathlib.Nat.{suc-mul}
 use native.Mathlib.Omega.{arith}
-use native.Mathlib.Numerals.{add-one}
 use lib.Dec.{eqb, ltb}
-use lib.ListN.{length, get_or, set, length-set}
-use lib.Seq.{get_or-set_same, get_or-set_other, set-get_or}
+use lib.ListN.{length, get_or, set, take}
+use lib.Seq.{get_or-set_same}
 use borrow.Author.Tests.{eq-eqb, ne_eqb, ltb-true}
-use Rattle.endian.proofs.Order.{both}
-use Rattle.ordering.specs.Keys.{number_of, entries, sorted, Each}
-use Rattle.ordering.proofs.Sorting.{entries-cons, entries_none, entries-all, entries-same, entries-snoc, length-entries, entry, Asc}
-use Rattle.ordering.proofs.Sorting.{asc-sorted}
+use Rattle.std.proofs.lemmas.List.{take-set, take_more}
+use Rattle.endian.proofs.Order.{both, three}
+use Rattle.ordering.specs.Keys.{number_of, sorted, Each}
+use Rattle.ordering.proofs.Sorting.{Asc, asc-sorted}
 use Rattle.stretches.specs.Stretches.{start_of, bytes_of, joined_from, joined, ascends_from, ascends, Sized}
 
 -- ---- the digits of a stretch that grows
@@ -38,6 +37,39 @@ module _ (size s last k : ℕ) (K : List ℕ) where
   pub joined-new : (start_of last + size ≡ start_of k → ⊥) → joined_from size s last (k ∷ K) ≡ s ∷ joined_from size k k K
   unfolding joined_from
   joined-new h = simp (ne_eqb (last / 65536 + size) (k / 65536) h)
+
+pub same_or : {X : Type 0} (a b : ℕ) → (a ≡ b → X) → ((a ≡ b → ⊥) → X) → X
+same_or a b f g = three a b (λ l. g (λ e. omega arith)) f (λ l. g (λ e. omega arith))
+
+-- ---- stretch s ends with the key `last`, and has room for the keys to come
+
+pub record Open (size s last : ℕ) (K : List ℕ) : Type 0 where
+  pub end : start_of s + bytes_of s ≡ start_of last + size
+  pub fit : bytes_of s + length K * size ≤ 256
+  pub each : Each (λ k. bytes_of k ≡ size) K
+
+module _ (size k : ℕ) (K : List ℕ) where
+  pub count-next : suc (length K) * size ≡ length K * size + size
+  count-next = suc-mul (length K) size
+
+  pub open-first : bytes_of k ≡ size → Each (λ k. bytes_of k ≡ size) K → suc (length K) * size ≤ 256 → Open size k k K
+  open-first b e h = record { end = omega arith; fit = omega (arith, count-next); each = e }
+
+  module _ (s last : ℕ) (o : Open size s last (k ∷ K)) where
+    pub small : bytes_of s + size ≤ 256
+    small = omega (arith, o.fit, count-next)
+
+    pub open-on : start_of last + size ≡ start_of k → Open size (s + size * 256) k K
+    open-on h =
+        let e0 : bytes_of k ≡ size = o.each.0 in
+        record {
+          end = omega (arith, grown-start s size small, grown-bytes s size small, o.end);
+          fit = omega (arith, grown-bytes s size small, o.fit, count-next);
+          each = o.each.1;
+        }
+
+    pub open-new : Open size k k K
+    open-new = open-first o.each.0 o.each.1 (omega (arith, o.fit))
 
 -- ---- how many stretches there are
 
@@ -82,197 +114,148 @@ open-one size s last (k ∷ K) e = go (eqb (start_of last + size) (start_of k)) 
         (let w : s + size * 256 + length K * size * 256 ≡ s + suc (length K) * size * 256 = omega (arith, suc-mul (length K) size) in w)
     go false f e = absurd (omega (arith, open-some size k k K))
 
--- ---- keys by index
+-- ---- keys that are one stretch: each starts where the one before ends
 
-each_at : (P : ℕ → Type 0) (K : List ℕ) (t : ℕ) → Each P K → t < length K → P (get_or K t 0)
-each_at P [] t e h = absurd (omega arith)
-each_at P (k ∷ K) zero e h = e.0
-each_at P (k ∷ K) (suc t) e h = each_at P K t e.1 (omega arith)
+abbrev pub Touching : ℕ → List ℕ → Type 0
+Touching size K = (i : ℕ) → i + 1 < length K → start_of (get_or K i 0) + size ≡ start_of (get_or K (i + 1) 0)
 
-each-entry : (P : ℕ → Type 0) (A : List ℕ) (m t : ℕ) → Each P (entries A 0 m) → t < m → P (get_or A t 0)
-each-entry P A m t e h = subst P (entry A m t h) (each_at P (entries A 0 m) t e (omega (arith, length-entries A 0 m)))
+touching-behind : (size k : ℕ) (K : List ℕ) → Touching size (k ∷ K) → Touching size K
+touching-behind size k K t i h =
+    let w : suc i + 1 ≡ suc (i + 1) = omega arith in
+    subst (λ (n : ℕ). start_of (get_or (k ∷ K) (suc i) 0) + size ≡ start_of (get_or (k ∷ K) n 0)) w (t (suc i) (omega arith))
 
--- ---- of m stretches so far the last is s; the keys from t on are left
+touching-one : (size s k : ℕ) (K : List ℕ) → Touching size (k ∷ K) → length (joined_from size s k K) ≡ 1
+unfolding joined_from
+touching-one size s k [] t = refl
+touching-one size s k (x ∷ K) t =
+    ap length (joined-on size s k x K (t 0 (omega arith)))
+    ∙ touching-one size (s + size * 256) x K (touching-behind size k (x ∷ K) t)
 
-pub record Joining (A : List ℕ) (n size N : ℕ) (B : List ℕ) (s last m t : ℕ) : Type 0 where
-  pub most : t ≤ n
+one-touching : (size s k : ℕ) (K : List ℕ) → length (joined_from size s k K) ≡ 1 → Touching size (k ∷ K)
+unfolding joined_from
+one-touching size s k [] e i h = absurd (omega arith)
+one-touching size s k (x ∷ K) e zero h =
+    same_or (start_of k + size) (start_of x) (λ q. q)
+    (λ q. absurd (omega (arith, e, ap length (joined-new size s k x K q), open-some size x x K)))
+one-touching size s k (x ∷ K) e (suc i) h =
+    let w : suc (i + 1) ≡ suc i + 1 = omega arith in
+    same_or (start_of k + size) (start_of x)
+    (λ q.
+    subst (λ (n : ℕ). start_of (get_or (x ∷ K) i 0) + size ≡ start_of (get_or (k ∷ x ∷ K) n 0)) w
+    (one-touching size (s + size * 256) x K (ap length (sym (joined-on size s k x K q)) ∙ e) i (omega arith)))
+    (λ q. absurd (omega (arith, e, ap length (joined-new size s k x K q), open-some size x x K)))
+
+pub told-one : (size : ℕ) (K : List ℕ) (b : Bool) → 0 < length K → (b ≡ true → Touching size K) → (Touching size K → b ≡ true)
+    → b ≡ eqb (length (joined size K)) 1
+unfolding joined
+told-one size [] b h f g = absurd (omega arith)
+told-one size (k ∷ K) true h f g = sym (eq-eqb (length (joined_from size k k K)) 1 (touching-one size k k K (f refl)))
+told-one size (k ∷ K) false h f g =
+    sym (ne_eqb (length (joined_from size k k K)) 1 (λ e. let q = g (one-touching size k k K e) in cc))
+
+pub told-none : (size : ℕ) (K : List ℕ) → length K ≡ 0 → false ≡ eqb (length (joined size K)) 1
+unfolding joined
+told-none size [] h = refl
+told-none size (k ∷ K) h = absurd (omega arith)
+
+-- ---- the stretches so far, of which the last, s, can grow; the keys of `rest` are left
+
+pub record Joining (K : List ℕ) (size : ℕ) (B : List ℕ) (s last m : ℕ) (ascending : Bool) (rest : List ℕ) : Type 0 where
   pub some : 0 < m
-  pub few : m ≤ t
-  pub room : n ≤ N
-  pub long : length B ≡ N
-  pub low : start_of s < 65536
-  pub bytes : bytes_of s ≤ t * size
+  pub few : m + length rest ≤ length K
+  pub can : Open size s last rest
   pub here : get_or B (m - 1) 0 ≡ s
-  pub same : entries B 0 (m - 1) ++ joined_from size s last (entries A t (n - t)) ≡ joined size (entries A 0 n)
+  pub same : take (m - 1) B ++ joined_from size s last rest ≡ joined size K
+  pub told : ascending && ascends_from size s last rest ≡ ascends size K
 
--- the open stretch behind those before
-closed : (B : List ℕ) (s m : ℕ) → 0 < m → m ≤ length B → get_or B (m - 1) 0 ≡ s → entries B 0 m ≡ entries B 0 (m - 1) ++ (s ∷ [])
-closed B s m h l e =
-    let w : m ≡ (m - 1) + 1 = omega arith in
-    ap (entries B 0) w ∙ ap (λ (C : List ℕ). entries C 0 ((m - 1) + 1)) (sym (ap (set B (m - 1)) (sym e) ∙ set-get_or B (m - 1) 0))
-    ∙ entries-snoc B (m - 1) s (omega arith)
-
-module _ (A : List ℕ) (n size N : ℕ) (z : Sized A n size) where
-  pub size-at : (t : ℕ) → t < n → bytes_of (get_or A t 0) ≡ size
-  size-at t h = each-entry (λ k. bytes_of k ≡ size) A n t z.each h
-
-  pub joining-first : (B : List ℕ) → length (set B 0 (get_or A 0 0)) ≡ N → n ≤ length B → 0 < n → start_of (get_or A 0 0) < 65536
-      → Joining A n size N (set B 0 (get_or A 0 0)) (get_or A 0 0) (get_or A 0 0) 1 1
-  unfolding entries joined
-  joining-first B l r h f =
-      let w : 0 + 1 ≡ 1 = omega arith in
-      let g : entries A 0 n ≡ get_or A 0 0 ∷ entries A 1 (n - 1) =
-      sym (entries-all A n) ∙ entries-cons A n 0 h ∙ ap (λ (y : ℕ). get_or A 0 0 ∷ entries A y (n - y)) w in
-      record {
-        most = omega arith;
-        some = omega arith;
-        few = omega arith;
-        room = omega (arith, length-set B 0 (get_or A 0 0));
-        long = l;
-        low = f;
-        bytes = omega (arith, size-at 0 h);
-        here = get_or-set_same B 0 (get_or A 0 0) 0 (omega arith);
-        same = ap (joined size) (sym g);
-      }
-
-  module _ (B : List ℕ) (s last m t : ℕ) (j : Joining A n size N B s last m t) where
-    pub joining-room : m ≤ length B
-    joining-room = omega (arith, j.few, j.most, j.long, j.room)
-
-    module _ (h : t < n) where
-      pub joining-small : bytes_of s + size ≤ 256
-      joining-small = omega (arith, j.bytes, z.few, suc-mul t size, mul-le-mul_right size (let w : suc t ≤ n = omega arith in w))
-
-      pub joining-on : (a b s' : ℕ) → a ≡ start_of last → b ≡ start_of (get_or A t 0) → a + size ≡ b → s' ≡ s + size * 256
-          → Joining A n size N (set B (m - 1) s') s' (get_or A t 0) m (t + 1)
-      joining-on a b s' ea eb g e =
-          let k : ℕ = get_or A t 0 in
-          let K : List ℕ = entries A (t + 1) (n - (t + 1)) in
-          record {
-            most = omega arith;
-            some = j.some;
-            few = omega (arith, j.few);
-            room = j.room;
-            long = length-set B (m - 1) s' ∙ j.long;
-            low = omega (arith, ap (λ (y : ℕ). y / 65536) e, grown-start s size joining-small, j.low);
-            bytes = omega (
-              arith,
-              j.bytes,
-              ap (λ (y : ℕ). y / 256 % 256) e,
-              grown-bytes s size joining-small,
-              suc-mul t size,
-              ap (λ (y : ℕ). y * size) (add-one t),
-            );
-            here = get_or-set_same B (m - 1) s' 0 (omega (arith, j.some, joining-room));
-            same = ap₂ (λ (X Y : List ℕ). X ++ Y)
-                (entries-same (set B (m - 1) s') B (m - 1) (λ i l. get_or-set_other B (m - 1) i s' 0 (λ q. omega arith)))
-                (ap (λ (y : ℕ). joined_from size y k K) e
-                ∙ sym (ap (joined_from size s last) (entries-cons A n t h) ∙ joined-on size s last k K (omega arith)))
-                ∙ j.same;
-          }
-
-      pub joining-new : (a b : ℕ) → a ≡ start_of last → (b ≡ start_of (get_or A t 0)) × (b < 65536) → (a + size ≡ b → ⊥)
-          → Joining A n size N (set B m (get_or A t 0)) (get_or A t 0) (get_or A t 0) (m + 1) (t + 1)
-      joining-new a b ea eb g =
-          let k : ℕ = get_or A t 0 in
-          let e0 : b ≡ start_of k = eb.0 in
-          let K : List ℕ = entries A (t + 1) (n - (t + 1)) in
-          let C : List ℕ = set B m k in
-          let w : (m + 1) - 1 ≡ m = omega arith in
-          record {
-            most = omega arith;
-            some = omega arith;
-            few = omega (arith, j.few);
-            room = j.room;
-            long = length-set B m k ∙ j.long;
-            low = omega (arith, eb.1);
-            bytes = omega (arith, size-at t h, suc-mul t size, ap (λ (y : ℕ). y * size) (add-one t));
-            here = ap (λ (y : ℕ). get_or C y 0) w ∙ get_or-set_same B m k 0 (omega (arith, j.few, j.long, j.room));
-            same = ap (λ (X : List ℕ). X ++ joined_from size k k K)
-                (ap (entries C 0) w ∙ entries-same C B m (λ i l. get_or-set_other B m i k 0 (λ q. omega arith))
-                ∙ closed B s m j.some joining-room j.here)
-                ∙ append_assoc (entries B 0 (m - 1)) (s ∷ []) (joined_from size k k K)
-                ∙ ap (λ (X : List ℕ). entries B 0 (m - 1) ++ X)
-                (sym (ap (joined_from size s last) (entries-cons A n t h) ∙ joined-new size s last k K (λ q. g (omega arith))))
-                ∙ j.same;
-          }
-
-    pub joining-done : n ≤ t → entries B 0 m ≡ joined size (entries A 0 n)
-    unfolding joined_from
-    joining-done h =
-        closed B s m j.some joining-room j.here
-        ∙ ap (λ (X : List ℕ). entries B 0 (m - 1) ++ X) (sym (ap (joined_from size s last) (entries_none A n t h))) ∙ j.same
-
-pub joined-none : (A B : List ℕ) (n size : ℕ) → n ≡ 0 → entries B 0 0 ≡ joined size (entries A 0 n)
-unfolding entries joined
-joined-none A B n size e = ap (λ (y : ℕ). joined size (entries A 0 y)) (sym e)
-
--- ---- whether stretches ascend: r so far, with what the keys from t on tell behind s
-
-pub record Ascending (A : List ℕ) (n size s last t : ℕ) (r : Bool) : Type 0 where
-  pub same : r && ascends_from size s last (entries A t (n - t)) ≡ ascends size (entries A 0 n)
-
-and-true : (r : Bool) → r && true ≡ r
-and-true true = refl
-and-true false = refl
+pub joining-first : {K R : List ℕ} {size k : ℕ} (B : List ℕ) → K ≡ k ∷ R → Sized K size → length K ≤ length B
+    → Joining K size (set B 0 k) k k 1 true R
+unfolding joined ascends
+joining-first {K} {R} {size} {k} B r z l =
+    let e : Each (λ x. bytes_of x ≡ size) (k ∷ R) = subst (Each (λ x. bytes_of x ≡ size)) r z.each in
+    record {
+      some = omega arith;
+      few = omega (arith, ap length r);
+      can = open-first size k R e.0 e.1 (subst (λ (X : List ℕ). length X * size ≤ 256) r z.few);
+      here = get_or-set_same B 0 k 0 (omega (arith, ap length r));
+      same = ap (joined size) (sym r);
+      told = ap (ascends size) (sym r);
+    }
 
 and_assoc : (a b c : Bool) → (a && b) && c ≡ a && (b && c)
 and_assoc true b c = refl
 and_assoc false b c = refl
 
-module _ (A : List ℕ) (n size : ℕ) where
-  pub ascends_none : n ≡ 0 → true ≡ ascends size (entries A 0 n)
-  unfolding ascends entries
-  ascends_none e = ap (λ (z : ℕ). ascends size (entries A 0 z)) (sym e)
+and-true : (b : Bool) → b && true ≡ b
+and-true true = refl
+and-true false = refl
 
-  pub ascending-first : 0 < n → Ascending A n size (get_or A 0 0) (get_or A 0 0) 1 true
-  unfolding ascends
-  ascending-first h =
-      let w : 0 + 1 ≡ 1 = omega arith in
-      let g : entries A 0 n ≡ get_or A 0 0 ∷ entries A 1 (n - 1) =
-      sym (entries-all A n) ∙ entries-cons A n 0 h ∙ ap (λ (y : ℕ). get_or A 0 0 ∷ entries A y (n - y)) w in
-      record { same = ap (ascends size) (sym g) }
+module _ {K rest B : List ℕ} {size s last m : ℕ} {a : Bool} (j : Joining K size B s last m a rest) (l : length K ≤ length B) where
+  -- the open stretch behind those before
+  closed : take m B ≡ take (m - 1) B ++ (s ∷ [])
+  closed =
+      let w : m ≡ (m - 1) + 1 = omega (arith, j.some) in
+      ap (λ (n : ℕ). take n B) w ∙ take_more B (m - 1) 0 (omega (arith, j.some, j.few))
+      ∙ ap (λ (x : ℕ). take (m - 1) B ++ (x ∷ [])) j.here
 
-  module _ (s last t : ℕ) (r : Bool) (a : Ascending A n size s last t r) where
-    module _ (h : t < n) where
-      abbrev here : ℕ
-      here = get_or A t 0
+  module _ {k : ℕ} {R : List ℕ} (r : rest ≡ k ∷ R) where
+    can : Open size s last (k ∷ R)
+    can = subst (Open size s last) r j.can
 
-      abbrev left : List ℕ
-      left = entries A (t + 1) (n - (t + 1))
+    pub joining-small : bytes_of s + size ≤ 256
+    joining-small = small size k R s last can
 
-      told : r && ascends_from size s last (here ∷ left) ≡ ascends size (entries A 0 n)
-      told = ap (λ (X : List ℕ). r && ascends_from size s last X) (sym (entries-cons A n t h)) ∙ a.same
-
-      pub ascending-on : (s' : ℕ) → start_of last + size ≡ start_of here → s' ≡ s + size * 256 → Ascending A n size s' here (t + 1) r
-      unfolding ascends_from
-      ascending-on s' g e =
-          record {
-            same = ap (λ (x : ℕ). r && ascends_from size x here left) e
-                ∙ ap (λ (b : Bool). r
-                && cond b (ascends_from size (s + size * 256) here left) (ltb s here && ascends_from size here here left))
-                (sym (eq-eqb (start_of last + size) (start_of here) g))
-                ∙ told;
-          }
-
-      pub ascending-new : (r' : Bool) → (start_of last + size ≡ start_of here → ⊥) → r' ≡ r && ltb s here
-          → Ascending A n size here here (t + 1) r'
-      unfolding ascends_from
-      ascending-new r' g e =
-          record {
-            same = ap (λ (b : Bool). b && ascends_from size here here left) e ∙ and_assoc r (ltb s here) (ascends_from size here here left)
-                ∙ ap (λ (b : Bool). r
-                && cond b (ascends_from size (s + size * 256) here left) (ltb s here && ascends_from size here here left))
-                (sym (ne_eqb (start_of last + size) (start_of here) g))
-                ∙ told;
-          }
-
-    pub ascending-done : n ≤ t → r ≡ ascends size (entries A 0 n)
+    pub joining-on : (s' : ℕ) → start_of last + size ≡ start_of k → s' ≡ s + size * 256 → Joining K size (set B (m - 1) s') s' k m a R
     unfolding ascends_from
-    ascending-done h =
-        sym (and-true r) ∙ ap (λ (X : List ℕ). r && ascends_from size s last X) (sym (entries_none A n t h)) ∙ a.same
+    joining-on s' h e =
+        record {
+          some = j.some;
+          few = omega (arith, j.few, ap length r);
+          can = subst (λ (x : ℕ). Open size x k R) (sym e) (open-on size k R s last can h);
+          here = get_or-set_same B (m - 1) s' 0 (omega (arith, j.some, j.few));
+          same = ap₂ (λ (X Y : List ℕ). X ++ Y) (take-set B (m - 1) s')
+              (ap (λ (x : ℕ). joined_from size x k R) e ∙ sym (ap (joined_from size s last) r ∙ joined-on size s last k R h))
+              ∙ j.same;
+          told = ap (λ (x : ℕ). a && ascends_from size x k R) e
+              ∙ ap (λ (b : Bool). a && cond b (ascends_from size (s + size * 256) k R) (ltb s k && ascends_from size k k R))
+              (sym (eq-eqb (start_of last + size) (start_of k) h))
+              ∙ ap (λ (X : List ℕ). a && ascends_from size s last X) (sym r) ∙ j.told;
+        }
 
--- stretches of which that is told are in order
+    pub joining-new : (start_of last + size ≡ start_of k → ⊥) → Joining K size (set B m k) k k (m + 1) (a && ltb s k) R
+    unfolding ascends_from
+    joining-new h =
+        let w : (m + 1) - 1 ≡ m = omega arith in
+        record {
+          some = omega arith;
+          few = omega (arith, j.few, ap length r);
+          can = open-new size k R s last can;
+          here = ap (λ (n : ℕ). get_or (set B m k) n 0) w ∙ get_or-set_same B m k 0 (omega (arith, j.few, ap length r));
+          same = ap (λ (X : List ℕ). X ++ joined_from size k k R)
+              (ap (λ (n : ℕ). take n (set B m k)) w ∙ take-set B m k ∙ closed)
+              ∙ append_assoc (take (m - 1) B) (s ∷ []) (joined_from size k k R)
+              ∙ ap (λ (X : List ℕ). take (m - 1) B ++ X) (sym (ap (joined_from size s last) r ∙ joined-new size s last k R h))
+              ∙ j.same;
+          told = and_assoc a (ltb s k) (ascends_from size k k R)
+              ∙ ap (λ (b : Bool). a && cond b (ascends_from size (s + size * 256) k R) (ltb s k && ascends_from size k k R))
+              (sym (ne_eqb (start_of last + size) (start_of k) h))
+              ∙ ap (λ (X : List ℕ). a && ascends_from size s last X) (sym r) ∙ j.told;
+        }
+
+  pub joining-done : rest ≡ [] → (m ≤ length K) × (take m B ≡ joined size K) × (a ≡ ascends size K)
+  unfolding joined_from ascends_from
+  joining-done r = (
+    omega (arith, j.few),
+    closed ∙ ap (λ (X : List ℕ). take (m - 1) B ++ joined_from size s last X) (sym r) ∙ j.same,
+    sym (and-true a) ∙ ap (λ (X : List ℕ). a && ascends_from size s last X) (sym r) ∙ j.told,
+  )
+
+pub joined-none : (K B : List ℕ) (size : ℕ) → length K ≡ 0 → (take 0 B ≡ joined size K) × (true ≡ ascends size K)
+unfolding joined ascends
+joined-none [] B size h = (refl, refl)
+joined-none (k ∷ K) B size h = absurd (omega arith)
+
+-- ---- stretches of which it is told that they ascend are in order
 asc-from : (size f s last : ℕ) (K : List ℕ) → f ≤ s → ascends_from size s last K ≡ true → Asc f (joined_from size s last K)
 unfolding ascends_from joined_from
 asc-from size f s last [] h e = (h, tt)
@@ -291,59 +274,3 @@ pub ascends-sorted : (size : ℕ) (K : List ℕ) → ascends size K ≡ true →
 unfolding ascends joined sorted
 ascends-sorted size [] e = refl
 ascends-sorted size (k ∷ K) e = asc-sorted 0 (joined_from size k k K) (asc-from size 0 k k K (omega arith) e)
-
--- ---- keys that are one stretch: those from t on are left, behind `last`, and make as many as all
-
-pub record Meeting (A : List ℕ) (n size last t : ℕ) : Type 0 where
-  pub some : 0 < t
-  pub most : t ≤ n
-  pub same : length (joined_from size 0 last (entries A t (n - t))) ≡ length (joined size (entries A 0 n))
-
-module _ (A : List ℕ) (n size : ℕ) where
-  pub meeting-none : n ≡ 0 → false ≡ eqb (length (joined size (entries A 0 n))) 1
-  unfolding joined entries
-  meeting-none e = ap (λ (z : ℕ). eqb (length (joined size (entries A 0 z))) 1) (sym e)
-
-  pub meeting-first : 0 < n → Meeting A n size (get_or A 0 0) 1
-  unfolding joined
-  meeting-first h =
-      let k : ℕ = get_or A 0 0 in
-      let w : 0 + 1 ≡ 1 = omega arith in
-      let g : entries A 0 n ≡ k ∷ entries A 1 (n - 1) =
-      sym (entries-all A n) ∙ entries-cons A n 0 h ∙ ap (λ (y : ℕ). k ∷ entries A y (n - y)) w in
-      record {
-        some = omega arith;
-        most = h;
-        same = open-length size 0 k k (entries A 1 (n - 1)) ∙ ap (λ (K : List ℕ). length (joined size K)) (sym g);
-      }
-
-  module _ (last t : ℕ) (m : Meeting A n size last t) where
-    module _ (h : t < n) where
-      abbrev k : ℕ
-      k = get_or A t 0
-
-      abbrev K : List ℕ
-      K = entries A (t + 1) (n - (t + 1))
-
-      all : length (joined_from size 0 last (k ∷ K)) ≡ length (joined size (entries A 0 n))
-      all = ap (λ (X : List ℕ). length (joined_from size 0 last X)) (sym (entries-cons A n t h)) ∙ m.same
-
-      pub meeting-on : start_of last + size ≡ start_of k → Meeting A n size k (t + 1)
-      meeting-on e =
-          record {
-            some = omega arith;
-            most = omega arith;
-            same = open-length size 0 (0 + size * 256) k K ∙ ap length (sym (joined-on size 0 last k K e)) ∙ all;
-          }
-
-      pub meeting-off : (start_of last + size ≡ start_of k → ⊥) → false ≡ eqb (length (joined size (entries A 0 n))) 1
-      meeting-off f =
-          let q : suc (length (joined_from size k k K)) ≡ length (joined size (entries A 0 n)) =
-          ap length (sym (joined-new size 0 last k K f)) ∙ all in
-          sym (ne_eqb (length (joined size (entries A 0 n))) 1 (λ e. omega (arith, open-some size k k K)))
-
-    pub meeting-done : n ≤ t → true ≡ eqb (length (joined size (entries A 0 n))) 1
-    unfolding joined_from
-    meeting-done h =
-        sym (eq-eqb (length (joined size (entries A 0 n))) 1
-        (sym m.same ∙ ap (λ (X : List ℕ). length (joined_from size 0 last X)) (entries_none A n t h)))

@@ -11,12 +11,11 @@ use borrow.Author.Tests.{eq-eqb, ne_eqb, eqb-true, eqb-false}
 use Rattle.writes.specs.Sets.{ByteWrite, lookup}
 use Rattle.writes.specs.Elements.{Element, splice, splice_all, net_effect, steps_from, steps_of}
 use Rattle.writes.proofs.Net.{lookup-splice}
-use Rattle.ordering.specs.Keys.{number_of, sorted, Each, Distinct}
+use Rattle.ordering.specs.Keys.{number_of, sorted, Each}
 use Rattle.stretches.proofs.Covering.{among, or, or_swap, or_assoc, covered, is_some, some-writes_at, some_or}
 use Rattle.stretches.specs.Stretches.{start_of, bytes_of, end_of, Seen, key_of, keys_of, joined_from, joined, merged, sum, Rising}
 use Rattle.stretches.proofs.Merging as merging
-use Rattle.stretches.proofs.Joined.{Numbers, sum-joined, inside-joined, numbers-joined, distinct-numbers, some-joined}
-use Rattle.stretches.proofs.Joined.{some-sorted, sum-sorted, rising-sorted}
+use Rattle.stretches.proofs.Joined.{sum-joined, inside-joined, some-joined, some-sorted, sum-sorted, rising-sorted}
 
 -- ---- the digits of a key
 
@@ -49,13 +48,6 @@ module _ (W L size : ℕ) (o : 1 ≤ size) (w : size ≤ 256) where
       let a = key-start (x.address - W) size x.number o w s.1 in
       let b = key-bytes (x.address - W) size x.number o w s.1 in
       (omega arith, keys-inside (suc x.number) xs s.5)
-
-  keys-numbers : (f : ℕ) (es : List Element) → Seen W L size f es → Numbers f (keys_of W size es)
-  unfolding keys_of
-  keys-numbers f [] s = tt
-  keys-numbers f (x ∷ xs) s =
-      let q = key-number (x.address - W) size x.number o w s.1 in
-      (omega (arith, s.0), subst (λ (z : ℕ). Numbers (suc z) (keys_of W size xs)) (sym q) (keys-numbers (suc x.number) xs s.5))
 
   pub length-keys : (es : List Element) → length (keys_of W size es) ≡ length es
   unfolding keys_of
@@ -132,15 +124,10 @@ module _ (W L size : ℕ) (o : 1 ≤ size) (w : size ≤ 256) where
     fit : length (keys_of W size es) * size ≤ 256
     fit = subst (λ (z : ℕ). z * size ≤ 256) (sym (length-keys es)) few
 
-    pub stretches-distinct : Distinct (joined size (keys_of W size es))
-    stretches-distinct =
-        distinct-numbers 0 (joined size (keys_of W size es))
-        (numbers-joined size (keys_of W size es) (keys-sized 0 es s) fit (keys-numbers 0 es s))
-
     pub stretches-rising : Rising L 0 (sorted (joined size (keys_of W size es)))
     stretches-rising =
         rising-sorted L (joined size (keys_of W size es))
-        (inside-joined size L (keys_of W size es) (keys-sized 0 es s) fit (keys-inside 0 es s)) stretches-distinct
+        (inside-joined size L (keys_of W size es) (keys-sized 0 es s) fit (keys-inside 0 es s))
 
     pub stretches-sum : sum (sorted (joined size (keys_of W size es))) ≡ length es * size
     stretches-sum =

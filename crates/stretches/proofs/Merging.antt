@@ -1,13 +1,13 @@
 -- What stretches by ascending start make: separate intervals that cover no other address. Assumes nothing.
 use mathlib.Core.Path.{◌≡◌, refl, sym, ap, ap₂, ◌∙◌, subst}
-use Prim.Native.Nat.{ℕ, ◌+◌, ◌-◌, ◌≤◌, ◌<◌}
+use Prim.Native.Nat.{ℕ, ◌+◌, ◌-◌, ◌≤◌, ◌<◌, max}
 use mathlib.Core.Bool.{Bool, false}
 use mathlib.Core.List.{List, [], ◌∷◌}
 use native.Mathlib.Omega.{arith}
 use Rattle.endian.proofs.Order.{two}
 use Rattle.stretches.specs.Intervals.{Separate}
 use Rattle.stretches.proofs.Covering.{among, or, covered, hull, or_assoc}
-use Rattle.stretches.specs.Stretches.{start_of, end_of, bytes_of, higher, merged_from, merged, Rising}
+use Rattle.stretches.specs.Stretches.{start_of, end_of, bytes_of, merged_from, merged, Rising}
 use Rattle.stretches.proofs.Growing.{merged-apart, merged-join}
 
 module _ (L : ℕ) where
@@ -23,7 +23,7 @@ module _ (L : ℕ) where
       (h, omega arith, omega arith, separate-from (a + (b - a) + 1) (start_of k) (end_of k) K (omega arith) (omega arith) r1 r.2))
       (λ p.
       subst (Separate L f) (sym (merged-join a b k K p))
-      (separate-from f a (higher b (end_of k)) K h (omega arith) (omega arith) (rising-less (start_of k) a K r0 r.2)))
+      (separate-from f a (max b (end_of k)) K h (omega arith) (omega arith) (rising-less (start_of k) a K r0 r.2)))
     where
       rising-less : (p q : ℕ) (K : List ℕ) → q ≤ p → Rising L p K → Rising L q K
       rising-less p q [] h r = tt
@@ -56,9 +56,9 @@ module _ (W L x : ℕ) where
       (covered-from s (s + n) s K (omega arith) (omega arith) r.2 ∙ ap (λ (z : ℕ). or (among (W + s) z x) (some W x K)) v))
       (λ w.
       let e : a ≡ a - (a - s) = omega arith in
-      let f : higher b (s + n) - a ≡ b + (s + n - b) - (a - (a - s)) = omega arith in
+      let f : max b (s + n) - a ≡ b + (s + n - b) - (a - (a - s)) = omega arith in
       ap (covered W x) (merged-join a b k K w)
-      ∙ covered-from a (higher b (s + n)) s K (omega arith) (omega arith) r.2
+      ∙ covered-from a (max b (s + n)) s K (omega arith) (omega arith) r.2
       ∙ ap₂ (λ (y z : ℕ). or (among (W + y) z x) (some W x K)) e f
       ∙ ap (λ (t : Bool). or t (some W x K)) (hull W x a b s n l (omega arith) w)
       ∙ or_assoc (among (W + a) (b - a) x) (among (W + s) n x) (some W x K))

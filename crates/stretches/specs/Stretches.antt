@@ -1,8 +1,8 @@
 -- Elements that lie side by side are one stretch. A stretch is a number: its start, an offset in the window, times 65536, its bytes
 -- less one times 256, and the number of its first element. Assumes nothing.
-use Rattle.std.specs.Prelude.{ℕ, suc, ◌+◌, ◌-◌, ◌*◌, ◌/◌, ◌%◌, ◌≤◌, ◌<◌, Bool, true, cond, ◌&&◌, List, [], ◌∷◌, ◌≡◌, eqb, ltb, length}
+use Rattle.std.specs.Prelude.{ℕ, suc, ◌+◌, ◌-◌, ◌*◌, ◌/◌, ◌%◌, ◌≤◌, ◌<◌, max, Bool, true, cond, ◌&&◌, List, [], ◌∷◌, ◌++◌, ◌≡◌, eqb, ltb, length}
 use Rattle.writes.specs.Elements.{Element}
-use Rattle.ordering.specs.Keys.{entries, Each}
+use Rattle.ordering.specs.Keys.{Each}
 use Rattle.stretches.specs.Intervals.{Interval, interval}
 
 abbrev pub start_of : ℕ → ℕ
@@ -14,14 +14,11 @@ bytes_of k = k / 256 % 256 + 1
 abbrev pub end_of : ℕ → ℕ
 end_of k = start_of k + bytes_of k
 
-abbrev pub higher : ℕ → ℕ → ℕ
-higher x y = x + (y - x)
-
 -- the interval from a up to b, grown by the stretches that meet or touch it, and those of the stretches behind it
 unfoldable pub merged_from : ℕ → ℕ → List ℕ → List Interval
 merged_from a b [] = interval a (b - a) ∷ []
 merged_from a b (k ∷ K) =
-    cond (ltb b (start_of k)) (interval a (b - a) ∷ merged_from (start_of k) (end_of k) K) (merged_from a (higher b (end_of k)) K)
+    cond (ltb b (start_of k)) (interval a (b - a) ∷ merged_from (start_of k) (end_of k) K) (merged_from a (max b (end_of k)) K)
 
 unfoldable pub merged : List ℕ → List Interval
 unfolding merged_from
@@ -33,19 +30,18 @@ abbrev pub Rising : ℕ → ℕ → List ℕ → Type 0
 Rising L p [] = Unit {0}
 Rising L p (k ∷ K) = (p ≤ start_of k) × (end_of k ≤ L) × Rising L (start_of k) K
 
--- the first m of an array
-pub record Ordered (S : List ℕ) (m L : ℕ) : Type 0 where
-  pub in_array : m ≤ length S
+pub record Ordered (S : List ℕ) (L : ℕ) : Type 0 where
   pub small : L ≤ 65536
-  pub rising : Rising L 0 (entries S 0 m)
+  pub rising : Rising L 0 S
 
--- the t-th stretch and those up to the one before `next` make one run, from `start` up to `end`
-pub record Grew (S : List ℕ) (m t start end next : ℕ) : Type 0 where
-  pub on : t < next
-  pub most : next ≤ m
+-- the stretches without those that are left, the `rest`, make one run, from `start` up to `end`
+pub record Grew (S : List ℕ) (start end : ℕ) (rest : List ℕ) : Type 0 where
+  pub taken : List ℕ
+  pub left : S ≡ taken ++ rest
+  pub fewer : length rest < length S
   pub some : start < end
   pub small : end < 65793
-  pub same : merged (entries S t (m - t)) ≡ interval start (end - start) ∷ merged (entries S next (m - next))
+  pub same : merged S ≡ interval start (end - start) ∷ merged rest
 
 -- ---- keys: stretches of one element each, in element order
 
@@ -85,12 +81,11 @@ unfolding ascends_from
 ascends size [] = true
 ascends size (k ∷ K) = ascends_from size k k K
 
--- the first n keys of an array, of `size` bytes each, at most 256 together
-pub record Sized (A : List ℕ) (n size : ℕ) : Type 0 where
-  pub in_array : n ≤ length A
+-- keys of `size` bytes each, at most 256 together
+pub record Sized (K : List ℕ) (size : ℕ) : Type 0 where
   pub some : 1 ≤ size
-  pub few : n * size ≤ 256
-  pub each : Each (λ k. bytes_of k ≡ size) (entries A 0 n)
+  pub few : length K * size ≤ 256
+  pub each : Each (λ k. bytes_of k ≡ size) K
 
 -- the bytes of all
 unfoldable pub sum : List ℕ → ℕ

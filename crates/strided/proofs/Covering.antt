@@ -1,5 +1,6 @@
 -- A strided store's active elements at equal distances: what their patch's runs cover, how long it is, and what they leave. Assumes
 -- nothing.
+use Rattle.std.specs.Prelude.{Err}
 use mathlib.Core.Path.{◌≡◌, refl, sym, ap, ◌∙◌, subst}
 use mathlib.Core.Bool.{Bool, true, false, cond}
 use mathlib.Core.List.{List, [], ◌∷◌}
@@ -30,9 +31,8 @@ use Rattle.copying.specs.Spreading.{spread_over, spread}
 use Rattle.cutting.specs.Cutting.{cut, spaced, Fits}
 use Rattle.cutting.proofs.Made.{made-length, made-buffer}
 use Rattle.cutting.proofs.Spacing.{spaced-separate}
-use Rattle.verdicts.specs.Verdicts.{patch_of, first_outside}
+use Rattle.verdicts.specs.Verdicts.{patch_of, first_outside, done}
 use Rattle.verdicts.specs.declared.Refusal.TheVariants.{NoRoom}
-use Rattle.verdicts.specs.declared.Verdict.TheVariants.{Done, Refused}
 use Rattle.checks.proofs.Walking.{inside-all}
 use Rattle.outcomes.specs.Steps.{StoredOf}
 use Rattle.outcomes.proofs.Concluding.{stored_short, stored-done}
@@ -49,12 +49,12 @@ module _ (W : ℕ) (mem : List ℕ) (t : W + length mem ≤ 2 ^ 64) (b : Bytes m
   unfolding patch_of total
   none-length = made-length W mem [] [] t b tt tt none-covered
 
-  pub none-short : (size : ℕ) (out : List ℕ) → length out < 4 → StoredOf W size mem out [] (Refused NoRoom) mem out
+  pub none-short : (size : ℕ) (out : List ℕ) → length out < 4 → StoredOf W size mem out [] (Err NoRoom) mem out
   unfolding first_outside
   none-short size out h = stored_short W size mem out [] refl (omega (arith, none-length))
 
   pub none_done : (size gap s r p : ℕ) (out out' : List ℕ) → 4 ≤ length out → r ≡ total (spaced 0 gap s 0) + 4 → p ≡ 0
-      → out' ≡ overwritten out 0 (encode_runs (cut W mem (spaced 0 gap s 0))) → StoredOf W size mem out [] (Done 0 0 r p) mem out'
+      → out' ≡ overwritten out 0 (encode_runs (cut W mem (spaced 0 gap s 0))) → StoredOf W size mem out [] (done 0 0 r p) mem out'
   unfolding first_outside written spaced total patch_of steps_from
   none_done size gap s r p out out' h er ep eo =
       stored-done W size mem out [] refl 0 0 r p mem out' refl (omega arith) (omega (arith, none-length)) ep
@@ -301,14 +301,14 @@ module _ (s : StridedAccess) (vb : ℕ) (o : StridedSound s vb) (z : List ℕ) (
       strided-apart s vb o z q W (length mem) window.0 window.1 fit g ∙ sym (ap (λ (t : Bool). cond t 1 count) e))
 
   pub strided-short : (out : List ℕ) → length out < run_count s count * (12 + run_size s count) + 4
-      → StoredOf W s.size mem out es (Refused NoRoom) mem out
+      → StoredOf W s.size mem out es (Err NoRoom) mem out
   strided-short out l = stored_short W s.size mem out es n (omega (arith, strided_length))
 
   pub strided-done : (k c r p at size runs' : ℕ) (mem' out out' : List ℕ) → run_count s count * (12 + run_size s count) + 4 ≤ length out
       → k ≡ count → c ≡ count * s.size → at ≡ from → mem' ≡ spread s vb z count s.low mem at → size ≡ run_size s count
       → runs' ≡ run_count s count → r ≡ total (spaced at s.gap size runs') + 4 → p ≡ runs'
       → out' ≡ overwritten out 0 (encode_runs (cut W mem' (spaced at s.gap size runs')))
-      → StoredOf W s.size mem out es (Done k c r p) mem' out'
+      → StoredOf W s.size mem out es (done k c r p) mem' out'
   unfolding patch_of
   strided-done k c r p at size runs' mem' out out' fill ek ec ea em es' er el' ep eo =
       let number = strided-count s vb o z in

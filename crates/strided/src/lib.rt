@@ -11,15 +11,9 @@ ghost use Rattle.outcomes.specs.Steps.{StoredOf};
 ghost use Rattle.strided.specs.Searching.{SearchedAs};
 ghost use Rattle.strided.specs.Runs.{run_count, run_size};
 
+use cutting::Spaced;
 use elements::StridedAccess;
-use verdicts::{Refusal, Verdict};
-
-// All active elements lie in the window, or the lowest that doesn't, with its first address.
-#[derive(Clone, Copy)]
-pub enum Search {
-    Inside,
-    Outside { element: u64, address: u64 },
-}
+use verdicts::{Done, Outside, Refusal, Verdict};
 
 // The bytes from a store's first address to its first active element's.
 fn lead(s: StridedAccess) -> usize
@@ -37,39 +31,35 @@ fn span(s: StridedAccess) -> usize
     (s.high - 1 - s.low) * s.gap + s.size
 }
 
-// The lowest active element with a byte outside the window, by a walk.
-fn walk(s: StridedAccess, vb: usize, base: u64, room: u64) -> Search
+// Whether all active elements lie in the window, or else the lowest that doesn't, by a walk.
+fn walk(s: StridedAccess, vb: usize, base: u64, room: u64) -> Result<(), Outside>
     requires { StridedSound s vb }
     ensures { (z : List ℕ) → length z ≡ 32 * vb → SearchedAs base room (strided_elements s vb z) result }
 {
-    let high = s.high;
-    let size = s.size as u64;
-    let mut k = s.low;
-    while k < high {
+    for k in s.low..s.high {
         let at = k * s.gap;
-        let address = elements::strided_address(s, at);
-        if !window::inside(base, room, address, size) {
-            return Search::Outside {
+        let address = s.address(at);
+        if !window::inside(base, room, address, s.size as u64) {
+            return Err(Outside {
                 element: (at / s.size) as u64,
                 address,
-            };
+            });
         }
-        k += 1;
     }
-    Search::Inside
+    Ok(())
 }
 
 // The same, by a test of them all first.
-fn find_outside(s: StridedAccess, vb: usize, base: u64, room: u64) -> Search
+fn find_outside(s: StridedAccess, vb: usize, base: u64, room: u64) -> Result<(), Outside>
     requires { StridedSound s vb × (window_ok base room ≡ true) }
     ensures { (z : List ℕ) → length z ≡ 32 * vb → SearchedAs base room (strided_elements s vb z) result }
 {
     if s.high <= s.low {
-        return Search::Inside;
+        return Ok(());
     }
-    let address = elements::strided_address(s, lead(s));
+    let address = s.address(lead(s));
     if window::inside(base, room, address, span(s) as u64) {
-        return Search::Inside;
+        return Ok(());
     }
     walk(s, vb, base, room)
 }
@@ -81,17 +71,25 @@ fn store_none(base: u64, memory: &[u8], patch: &mut [u8]) -> Verdict
         → StoredOf base size memory.now patch.old [] result memory.now patch.new }
 {
     if patch.len() < 4 {
-        return Verdict::Refused {
-            refusal: Refusal::NoRoom,
-        };
+        return Err(Refusal::NoRoom);
     }
-    let composed = cutting::compose_spaced(base, 0, 1, 1, 0, memory, patch);
-    Verdict::Done {
+    let composed = cutting::compose_spaced(
+        base,
+        Spaced {
+            first: 0,
+            gap: 1,
+            size: 1,
+            count: 0,
+        },
+        memory,
+        patch,
+    );
+    Ok(Done {
         elements: 0,
         bytes: 0,
         length: composed.length as u64,
         steps: composed.steps as u64,
-    }
+    })
 }
 
 // How many runs there are, and how many bytes each has: one for all where elements lie side by side, else one for each of them.
@@ -137,19 +135,27 @@ fn finish(
     let count = runs.count;
     let size = runs.size;
     if patch.len() < count * (12 + size) + 4 {
-        return Verdict::Refused {
-            refusal: Refusal::NoRoom,
-        };
+        return Err(Refusal::NoRoom);
     }
-    let at = (elements::strided_address(s, lead(s)) - base) as usize;
+    let at = (s.address(lead(s)) - base) as usize;
     let counts = copying::copy_active(s, vb, z, memory, at);
-    let composed = cutting::compose_spaced(base, at, s.gap, size, count, memory, patch);
-    Verdict::Done {
+    let composed = cutting::compose_spaced(
+        base,
+        Spaced {
+            first: at,
+            gap: s.gap,
+            size,
+            count,
+        },
+        memory,
+        patch,
+    );
+    Ok(Done {
         elements: counts.elements,
         bytes: counts.bytes,
         length: composed.length as u64,
         steps: composed.steps as u64,
-    }
+    })
 }
 
 // A strided store from verdict 7 on.
@@ -168,13 +174,14 @@ pub fn store_strided(
         memory.new patch.new }
 {
     match find_outside(s, vb, base, memory.len() as u64) {
-        Search::Outside { element, address } => {
-            let address = window::first_outside(base, memory.len() as u64, address);
-            Verdict::Refused {
-                refusal: Refusal::Fault { element, address },
-            }
+        Err(outside) => {
+            let address = window::first_outside(base, memory.len() as u64, outside.address);
+            Err(Refusal::Fault {
+                element: outside.element,
+                address,
+            })
         }
-        Search::Inside => {
+        Ok(()) => {
             if s.high <= s.low {
                 return store_none(base, memory, patch);
             }

@@ -1,4 +1,5 @@
 -- `store_vector`: gathered keys are ready to be finished. Assumes nothing.
+use Rattle.std.specs.Prelude.{Option, Some, None}
 use mathlib.Core.Path.{◌≡◌, refl, sym, ap, ◌∙◌, subst}
 use mathlib.Core.Bool.{Bool, true, false, cond}
 use mathlib.Core.List.{List, [], ◌∷◌}
@@ -6,9 +7,10 @@ use mathlib.Core.Option.{none, some}
 use Prim.Native.Nat.{ℕ, zero, suc, ◌+◌, ◌*◌, ◌≤◌, ◌<◌}
 use native.Mathlib.Nat.{mul-le-mul, mul-le-mul_left}
 use native.Mathlib.Omega.{arith}
-use lib.ListN.{length, drop}
+use lib.ListN.{length, take, drop}
+use Rattle.std.specs.Prelude.{Result, Ok, Err}
 use Rattle.encoding.specs.declared.Extension.{Extension}
-use Rattle.encoding.specs.declared.Extension.TheVariants.{None, Uxtw, Sxtw}
+use Rattle.encoding.specs.declared.Extension.TheVariants.{Uxtw, Sxtw}
 use Rattle.endian.specs.LittleEndian.{Bytes}
 use Rattle.writes.specs.Elements.{Element, InWindow}
 use Rattle.window.specs.Window.{window_ok}
@@ -17,17 +19,14 @@ use Rattle.window.proofs.Windows.{window-inv}
 use Rattle.elements.specs.Elements.{actives}
 use Rattle.elements.specs.Accesses.{offset_bytes, vector_active, vector_element, vector_elements, VectorSound}
 use Rattle.elements.specs.declared.VectorAccess.{VectorAccess}
-use Rattle.ordering.specs.Keys.{entries}
-use Rattle.ordering.proofs.Sorting.{length-entries}
 use Rattle.verdicts.specs.Verdicts.{first_outside}
+use Rattle.verdicts.specs.declared.Outside.{Outside}
 use Rattle.checks.proofs.Walking.{inside-all}
 use Rattle.checks.proofs.Spans.{bytes-in, bytes-long}
 use Rattle.stretches.specs.Stretches.{Seen, keys_of}
 use Rattle.stretches.proofs.Keying.{length-keys}
 use Rattle.cutting.specs.Cutting.{part, Fits}
 use Rattle.gathering.specs.Gathering.{GatheredAs}
-use Rattle.gathering.specs.declared.Gathered.{Gathered}
-use Rattle.gathering.specs.declared.Gathered.TheVariants as G
 use Rattle.writing.specs.Writing.{Held}
 use Rattle.vectors.specs.Steps.{Ready}
 
@@ -35,10 +34,10 @@ use Rattle.vectors.specs.Steps.{Ready}
 pub vector-few : (v : VectorAccess) (vb : ℕ) → VectorSound v vb → v.count ≤ 64
 vector-few v vb s = omega (arith, mul-le-mul_left v.count wide, s.whole, s.high)
   where
-    offset-some : (x : Extension) → 4 ≤ offset_bytes x
+    offset-some : (x : Option Extension) → 4 ≤ offset_bytes x
     offset-some None = omega arith
-    offset-some Uxtw = omega arith
-    offset-some Sxtw = omega arith
+    offset-some (Some Uxtw) = omega arith
+    offset-some (Some Sxtw) = omega arith
 
     wide : 4 ≤ v.step
     wide = omega (arith, offset-some v.extension, s.offset)
@@ -105,13 +104,12 @@ module _ (on : ℕ → Bool) (el : ℕ → Element) (W L step size : ℕ) (store
       go true w rest = on-good i k (actives on el k (suc i)) (f i (omega arith)) w.0 w.1 (rest w.2)
       go false w rest = off-good i k (actives on el k (suc i)) (rest w)
 
-pub ready : (v : VectorAccess) (vb : ℕ) (offsets governing stored A : List ℕ) (W L n : ℕ) → VectorSound v vb → length stored ≡ vb
-    → Bytes stored
-    → window_ok W L ≡ true → 64 ≤ length A → first_outside W L (vector_elements v offsets governing stored) ≡ none
-    → entries A 0 n ≡ keys_of W v.size (vector_elements v offsets governing stored)
-    → Ready W L v.step v.size stored A n (vector_elements v offsets governing stored)
+pub ready : (v : VectorAccess) (vb : ℕ) (offsets governing stored K : List ℕ) (W L : ℕ) → VectorSound v vb → length stored ≡ vb
+    → Bytes stored → window_ok W L ≡ true → first_outside W L (vector_elements v offsets governing stored) ≡ none
+    → K ≡ keys_of W v.size (vector_elements v offsets governing stored)
+    → Ready W L v.step v.size stored K (vector_elements v offsets governing stored)
 unfolding vector_elements vector_element part
-ready v vb offsets governing stored A W L n s q b ok a none_out keys =
+ready v vb offsets governing stored K W L s q b ok none_out keys =
     let es : List Element = vector_elements v offsets governing stored in
     let w = window-inv W L ok in
     let few = vector-few v vb s in
@@ -126,11 +124,10 @@ ready v vb offsets governing stored A W L n s q b ok a none_out keys =
       room = omega (arith, bytes-in v vb s e (omega arith));
     }) (inside-all W L es none_out) in
     let wide : v.size ≤ 256 = omega (arith, s.size, s.wide) in
-    let l : n ≡ length es = sym (length-entries A 0 n) ∙ ap length keys ∙ length-keys W L v.size s.some wide es in
-    let m : n * v.size ≤ v.count * v.step = mul-le-mul (let z : n ≤ v.count = omega (arith, g.few) in z) s.size in
+    let l : length K ≡ length es = ap length keys ∙ length-keys W L v.size s.some wide es in
+    let m : length K * v.size ≤ v.count * v.step = mul-le-mul (let z : length K ≤ v.count = omega (arith, g.few) in z) s.size in
     record {
       keys = keys;
-      in_array = omega (arith, g.few);
       few = omega (arith, g.few);
       top = w.1;
       small = w.0;
@@ -148,11 +145,12 @@ ready v vb offsets governing stored A W L n s q b ok a none_out keys =
 
 -- ---- what gathering answered
 
-module _ (W L size : ℕ) (es : List Element) (A : List ℕ) (g : Gathered) (h : GatheredAs W L size es A g) where
-  pub gathered-out : (e a : ℕ) → g ≡ G.Outside e a → (x : Element) × (first_outside W L es ≡ some x) × (e ≡ x.number) × (a ≡ x.address)
+module _ (W L size : ℕ) (es : List Element) (A : List ℕ) (g : Result ℕ Outside) (h : GatheredAs W L size es A g) where
+  pub gathered-out : (o : Outside) → g ≡ Err o
+      → (x : Element) × (first_outside W L es ≡ some x) × (o.element ≡ x.number) × (o.address ≡ x.address)
   unfolding GatheredAs
-  gathered-out e a q = subst (GatheredAs W L size es A) q h
+  gathered-out o q = subst (GatheredAs W L size es A) q h
 
-  pub gathered-keys : (n : ℕ) → g ≡ G.Keys n → (first_outside W L es ≡ none) × (entries A 0 n ≡ keys_of W size es)
+  pub gathered-keys : (n : ℕ) → g ≡ Ok n → (first_outside W L es ≡ none) × (n ≤ length A) × (take n A ≡ keys_of W size es)
   unfolding GatheredAs
   gathered-keys n q = subst (GatheredAs W L size es A) q h

@@ -1,4 +1,5 @@
 -- Laws over any lines of a table. Assumes nothing.
+use Rattle.std.specs.Prelude.{Ok, Err}
 use mathlib.Core.Path.{◌≡◌, refl, sym, ap, ◌∙◌}
 use mathlib.Core.Bool.{Bool, true, false, not, cond, ◌&&◌, ◌||◌}
 use mathlib.Core.List.{List, [], ◌∷◌}
@@ -7,10 +8,24 @@ use Prim.Native.Nat.{ℕ}
 use lib.Dec.{eqb}
 use borrow.Author.Tests.{eqb-true, eqb-false, eq-eqb}
 use Rattle.endian.proofs.Order.{absurdly, both}
-use Rattle.verdicts.specs.Verdicts.{Row, decided, number}
+use Rattle.verdicts.specs.Verdicts.{Row, decided, number, Verdict, done}
 use Rattle.verdicts.specs.Statements.{Given, NoneGiven, Decides, before, without, Numbered}
-use Rattle.verdicts.specs.declared.Verdict.{Verdict}
-use Rattle.verdicts.specs.declared.Verdict.TheVariants.{Refused}
+use Rattle.verdicts.specs.declared.Done.{Done}
+
+-- ---- what a done store reports
+
+-- zeros for a refusal
+abbrev reported : Verdict → Done
+reported (Ok d) = d
+reported (Err r) = record { elements = 0; bytes = 0; length = 0; steps = 0 }
+
+pub done-same : {n b k s n' b' k' s' : ℕ} → done n b k s ≡ done n' b' k' s' → (n ≡ n') × (b ≡ b') × (k ≡ k') × (s ≡ s')
+done-same e = (
+  ap (λ (v : Verdict). (reported v).elements) e,
+  ap (λ (v : Verdict). (reported v).bytes) e,
+  ap (λ (v : Verdict). (reported v).length) e,
+  ap (λ (v : Verdict). (reported v).steps) e,
+)
 
 -- ---- which decides
 
@@ -18,7 +33,7 @@ pub none_done : (rs : List Row) (done : Verdict) → NoneGiven rs → decided rs
 unfolding decided
 none_done [] done h = refl
 none_done (r ∷ rs) done h =
-    ap (λ (b : Bool). cond b (Refused r.returned) (decided rs done)) h.0 ∙ none_done rs done h.1
+    ap (λ (b : Bool). cond b (Err r.returned) (decided rs done)) h.0 ∙ none_done rs done h.1
 
 module _ (done : Verdict) (zero : number done ≡ 0) where
   pub done_none : (rs : List Row) → Numbered rs → number (decided rs done) ≡ 0 → NoneGiven rs
@@ -26,7 +41,7 @@ module _ (done : Verdict) (zero : number done ≡ 0) where
   done_none [] u e = tt
   done_none (r ∷ rs) u e = go r.given refl e (done_none rs u.1)
     where
-      go : (b : Bool) → r.given ≡ b → number (cond b (Refused r.returned) (decided rs done)) ≡ 0
+      go : (b : Bool) → r.given ≡ b → number (cond b (Err r.returned) (decided rs done)) ≡ 0
           → (number (decided rs done) ≡ 0 → NoneGiven rs) → NoneGiven (r ∷ rs)
       go true g q f = absurd (u.0.some (sym u.0.same ∙ q))
       go false g q f = (g, f q)
@@ -36,7 +51,7 @@ module _ (done : Verdict) (zero : number done ≡ 0) where
   number-decides [] u n h e = absurd (h (sym e ∙ zero))
   number-decides (r ∷ rs) u n h e = go r.given refl e (number-decides rs u.1 n h)
     where
-      go : (b : Bool) → r.given ≡ b → number (cond b (Refused r.returned) (decided rs done)) ≡ n
+      go : (b : Bool) → r.given ≡ b → number (cond b (Err r.returned) (decided rs done)) ≡ n
           → (number (decided rs done) ≡ n → Decides n rs) → Decides n (r ∷ rs)
       go true g q f = inl (sym u.0.same ∙ q, g)
       go false g q f = inr (g, f q)
@@ -44,9 +59,9 @@ module _ (done : Verdict) (zero : number done ≡ 0) where
   pub decides-number : (rs : List Row) → Numbered rs → (n : ℕ) → Decides n rs → number (decided rs done) ≡ n
   unfolding decided
   decides-number (r ∷ rs) u n (inl x) =
-      ap (λ (b : Bool). number (cond b (Refused r.returned) (decided rs done))) x.1 ∙ u.0.same ∙ x.0
+      ap (λ (b : Bool). number (cond b (Err r.returned) (decided rs done))) x.1 ∙ u.0.same ∙ x.0
   decides-number (r ∷ rs) u n (inr x) =
-      ap (λ (b : Bool). number (cond b (Refused r.returned) (decided rs done))) x.0 ∙ decides-number rs u.1 n x.1
+      ap (λ (b : Bool). number (cond b (Err r.returned) (decided rs done))) x.0 ∙ decides-number rs u.1 n x.1
   decides-number [] u n x = elim x [ ]
 
 -- ---- the line of number n, where no two have one number
@@ -139,7 +154,7 @@ before-decided n (r ∷ rs) done h = go (eqb r.number n) h (before-decided n rs 
     go : (b : Bool) → NoneGiven (cond b [] (r ∷ before n rs)) → (NoneGiven (before n rs) → decided rs done ≡ decided (from n rs) done)
         → decided (r ∷ rs) done ≡ decided (cond b (r ∷ rs) (from n rs)) done
     go true h f = refl
-    go false h f = ap (λ (b : Bool). cond b (Refused r.returned) (decided rs done)) h.0 ∙ f h.1
+    go false h f = ap (λ (b : Bool). cond b (Err r.returned) (decided rs done)) h.0 ∙ f h.1
 
 pub none-parted : (n : ℕ) (rs : List Row) → NoneGiven rs → NoneGiven (before n rs) × NoneGiven (from n rs)
 none-parted n [] h = (tt, tt)
@@ -168,10 +183,10 @@ without-undue n [] done h = refl
 without-undue n (r ∷ rs) done h = go (eqb r.number n) refl r.given refl (without-undue n rs done (λ g. h (inr g)))
   where
     go : (t : Bool) → eqb r.number n ≡ t → (b : Bool) → r.given ≡ b → decided rs done ≡ decided (without n rs) done
-        → cond b (Refused r.returned) (decided rs done) ≡ decided (cond t (without n rs) (r ∷ without n rs)) done
+        → cond b (Err r.returned) (decided rs done) ≡ decided (cond t (without n rs) (r ∷ without n rs)) done
     go true q true g e = absurd (h (inl (eqb-true r.number n q, g)))
     go true q false g e = e
-    go false q b g e = (λ i. cond (sym g i) (Refused r.returned) (e i))
+    go false q b g e = (λ i. cond (sym g i) (Err r.returned) (e i))
 
 -- where it doesn't decide
 pub without-undecided : (n : ℕ) (rs : List Row) (done : Verdict) → Numbered rs → (number (decided rs done) ≡ n → ⊥)
@@ -181,10 +196,10 @@ without-undecided n [] done u h = refl
 without-undecided n (r ∷ rs) done u h = go (eqb r.number n) refl r.given refl h (without-undecided n rs done u.1)
   where
     go : (t : Bool) → eqb r.number n ≡ t → (b : Bool) → r.given ≡ b
-        → (number (cond b (Refused r.returned) (decided rs done)) ≡ n → ⊥)
+        → (number (cond b (Err r.returned) (decided rs done)) ≡ n → ⊥)
         → ((number (decided rs done) ≡ n → ⊥) → decided rs done ≡ decided (without n rs) done)
-        → cond b (Refused r.returned) (decided rs done) ≡ decided (cond t (without n rs) (r ∷ without n rs)) done
+        → cond b (Err r.returned) (decided rs done) ≡ decided (cond t (without n rs) (r ∷ without n rs)) done
     go true q true g k e = absurd (k (u.0.same ∙ eqb-true r.number n q))
     go true q false g k e = e k
-    go false q true g k e = (λ i. cond (sym g i) (Refused r.returned) (decided (without n rs) done))
-    go false q false g k e = e k ∙ (λ i. cond (sym g i) (Refused r.returned) (decided (without n rs) done))
+    go false q true g k e = (λ i. cond (sym g i) (Err r.returned) (decided (without n rs) done))
+    go false q false g k e = e k ∙ (λ i. cond (sym g i) (Err r.returned) (decided (without n rs) done))

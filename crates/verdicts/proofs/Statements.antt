@@ -1,5 +1,7 @@
 -- The promises of the table of verdicts. Assumes nothing.
 use mathlib.Core.Path.{◌≡◌, refl, ap, ◌∙◌}
+use Rattle.std.specs.Prelude as P
+use Rattle.encoding.specs.declared.Store.{Store}
 use mathlib.Core.Bool.{Bool, true}
 use mathlib.Core.Logic.{◌↔◌}
 use mathlib.Core.Option.{Option, none, some}
@@ -7,7 +9,6 @@ use Prim.Native.Nat.{ℕ, suc}
 use native.Mathlib.Omega.{arith}
 use borrow.Author.Tests.{ltb-true, lt-ltb}
 use lib.ListN.{length}
-use Rattle.encoding.specs.declared.Decoded.{Decoded}
 use Rattle.writes.specs.Elements.{Element, first_overlap}
 use Rattle.elements.specs.Machine.{Machine}
 use Rattle.verdicts.specs.Verdicts.{elements_for, patch_of, first_outside, fault_of, overlap_of, row, table, refusal_number, number}
@@ -52,7 +53,7 @@ pub table-in-order : TableInOrder
 table-in-order f m W L d room = refl
 
 -- no two lines have one number
-line_of : (f : Flags) (m : Machine) (W L : ℕ) (d : Decoded) (room n : ℕ)
+line_of : (f : Flags) (m : Machine) (W L : ℕ) (d : P.Option Store) (room n : ℕ)
     → Given n (table f m W L d room) ↔ (given_at n (table f m W L d room) ≡ true)
 line_of f m W L d room n = given_is n (table f m W L d room) refl
 

@@ -1,4 +1,5 @@
 -- Each line of the table is given exactly when document 01 says, in its words. Assumes nothing.
+use Rattle.std.specs.Prelude.{Option, Some, None}
 use mathlib.Core.Path.{◌≡◌, refl, sym, ap, subst}
 use mathlib.Core.Bool.{Bool, true, false, not, cond, ◌&&◌, ◌||◌}
 use mathlib.Core.List.{List, [], ◌∷◌}
@@ -9,8 +10,7 @@ use native.Mathlib.Omega.{arith}
 use borrow.Author.Tests.{eqb-true, eq-eqb, leb-true, le-leb}
 use lib.Dec.{eqb, leb}
 use lib.ListN.{length}
-use Rattle.encoding.specs.declared.Decoded.{Decoded}
-use Rattle.encoding.specs.declared.Decoded.TheVariants as D
+use Rattle.encoding.specs.declared.Store.{Store}
 use Rattle.encoding.specs.declared.Store.TheVariants.{Scatter, Strided, Quadword}
 use Rattle.encoding.proofs.Statements.{one_of}
 use Rattle.writes.specs.Elements.{Element, InWindow, share_byte, shares_with, overlap_from, first_overlap}
@@ -113,21 +113,21 @@ window-given W L = (
 
 -- ---- 4 to 6
 
-pub undefined-given : (f : Flags) (d : Decoded) → (undefined f d ≡ true) ↔ NoClassOrOff f d
-undefined-given f D.Undefined = ((λ e. tt), (λ u. refl))
-undefined-given f (D.Known (Scatter g)) = off f.sve
-undefined-given f (D.Known (Strided g)) = off f.sme2
-undefined-given f (D.Known (Quadword g)) = off f.sve2p1
+pub undefined-given : (f : Flags) (d : Option Store) → (undefined f d ≡ true) ↔ NoClassOrOff f d
+undefined-given f None = ((λ e. tt), (λ u. refl))
+undefined-given f (Some (Scatter g)) = off f.sve
+undefined-given f (Some (Strided g)) = off f.sme2
+undefined-given f (Some (Quadword g)) = off f.sve2p1
 
 -- streaming on and FA64 off
 in-streaming : (s a : Bool) → (s && not a ≡ true) ↔ ((s ≡ true) × (a ≡ false))
 in-streaming s a = ((λ e. let b = both s (not a) e in (b.0, (off a).0 b.1)), (λ q. cc (q.0, q.1)))
 
-pub illegal-given : (f : Flags) (d : Decoded) → (illegal_for f d ≡ true) ↔ NotInThisMode f d
-illegal-given f D.Undefined = (never, (λ x. absurd x))
-illegal-given f (D.Known (Scatter g)) = in-streaming f.streaming f.fa64
-illegal-given f (D.Known (Strided g)) = off f.streaming
-illegal-given f (D.Known (Quadword g)) = in-streaming f.streaming f.fa64
+pub illegal-given : (f : Flags) (d : Option Store) → (illegal_for f d ≡ true) ↔ NotInThisMode f d
+illegal-given f None = (never, (λ x. absurd x))
+illegal-given f (Some (Scatter g)) = in-streaming f.streaming f.fa64
+illegal-given f (Some (Strided g)) = off f.streaming
+illegal-given f (Some (Quadword g)) = in-streaming f.streaming f.fa64
 
 none-listed : {X : Type 0} (x : Element) (es : List Element) → es ≡ [] → Listed x es → X
 none-listed x (y ∷ es) e l = absurd (omega (arith, ap length e))
@@ -155,18 +155,18 @@ checked f sp r es t =
     all_true : (a b c d : Bool) → a ≡ true → b ≡ true → c ≡ true → d ≡ true → a && b && c && d ≡ true
     all_true a b c d p q r s = cc
 
-pub stack-given : (f : Flags) (m : Machine) (d : Decoded)
+pub stack-given : (f : Flags) (m : Machine) (d : Option Store)
     → (stack_for f m d ≡ true)
     ↔ (BasedOnSp d
     × (f.sp_check ≡ true)
     × (m.sp % 16 ≡ 0 → ⊥)
     × (((x : Element) × Listed x (elements_for m d)) ⊎ (f.sp_check_none_active ≡ true)))
-stack-given f m D.Undefined = (never, (λ x. absurd x.0))
-stack-given f m (D.Known (Scatter g)) =
+stack-given f m None = (never, (λ x. absurd x.0))
+stack-given f m (Some (Scatter g)) =
     checked f m.sp (eqb g.rn 31) (elements m (Scatter g)) (eqb-true g.rn 31, eq-eqb g.rn 31)
-stack-given f m (D.Known (Strided g)) =
+stack-given f m (Some (Strided g)) =
     checked f m.sp (eqb g.rn 31) (elements m (Strided g)) (eqb-true g.rn 31, eq-eqb g.rn 31)
-stack-given f m (D.Known (Quadword g)) = checked f m.sp false (elements m (Quadword g)) (never, (λ x. absurd x))
+stack-given f m (Some (Quadword g)) = checked f m.sp false (elements m (Quadword g)) (never, (λ x. absurd x))
 
 -- ---- 7
 

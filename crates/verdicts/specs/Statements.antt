@@ -1,14 +1,12 @@
 -- What is promised of the table of verdicts. Each has its proof in proofs/Statements.antt. Assumes nothing.
-use Rattle.std.specs.Prelude.{ℕ, ◌+◌, ◌*◌, ◌%◌, ◌^◌, ◌≤◌, ◌<◌, Bool, true, false, cond, List, [], ◌∷◌, map, ◌↔◌, ◌⊎◌, ◌≡◌, eqb, length}
-use Rattle.encoding.specs.declared.Decoded.{Decoded}
-use Rattle.encoding.specs.declared.Decoded.TheVariants as D
+use Rattle.std.specs.Prelude.{ℕ, ◌+◌, ◌*◌, ◌%◌, ◌^◌, ◌≤◌, ◌<◌, Bool, true, false, cond, List, [], ◌∷◌, map, ◌↔◌, ◌⊎◌, ◌≡◌, eqb, length, Option, Some, None}
+use Rattle.encoding.specs.declared.Store.{Store}
 use Rattle.encoding.specs.declared.Store.TheVariants.{Scatter, Strided, Quadword}
 use Rattle.writes.specs.Elements.{Element}
 use Rattle.window.specs.Window.{in_window}
 use Rattle.elements.specs.Machine.{Machine}
-use Rattle.verdicts.specs.Verdicts.{elements_for, patch_of, Row, table, decided, refusal_number, number}
+use Rattle.verdicts.specs.Verdicts.{elements_for, patch_of, Row, table, decided, refusal_number, number, Verdict}
 use Rattle.verdicts.specs.declared.Flags.{Flags}
-use Rattle.verdicts.specs.declared.Verdict.{Verdict}
 
 -- ---- any lines of a table
 
@@ -57,12 +55,12 @@ FirstGivenDecides =
 
 -- document 01's numbers stand in the table and in what its lines return alike
 abbrev pub TableNumbered : Type 0
-TableNumbered = (f : Flags) (m : Machine) (W L : ℕ) (d : Decoded) (room : ℕ) → Numbered (table f m W L d room)
+TableNumbered = (f : Flags) (m : Machine) (W L : ℕ) (d : Option Store) (room : ℕ) → Numbered (table f m W L d room)
 
 -- document 02 (ix): "checks 1 to 7, 12 and 8 in that order"
 abbrev pub TableInOrder : Type 0
 TableInOrder =
-    (f : Flags) (m : Machine) (W L : ℕ) (d : Decoded) (room : ℕ)
+    (f : Flags) (m : Machine) (W L : ℕ) (d : Option Store) (room : ℕ)
     → map (λ (r : Row). r.number) (table f m W L d room) ≡ 1 ∷ 2 ∷ 3 ∷ 4 ∷ 5 ∷ 6 ∷ 7 ∷ 12 ∷ 8 ∷ []
 
 -- ---- its column "Given exactly when", line by line
@@ -103,27 +101,27 @@ AllowedLength false streaming vb = OneOfFive vb
 -- "no class, or flag off: SVE for 1..7, SME2 for 8..11, SVE2p1 for 12": scatter, strided and quadword stores; document 02 (i), of 13
 -- to 24, which are scatter stores: "All need the SVE flag and are illegal as classes 1 to 7 are."; (vii), of 25 to 36, which are strided:
 -- "All need SME2 and are illegal as classes 8 to 11 are"
-abbrev pub NoClassOrOff : Flags → Decoded → Type 0
-NoClassOrOff f D.Undefined = Unit {0}
-NoClassOrOff f (D.Known (Scatter g)) = f.sve ≡ false
-NoClassOrOff f (D.Known (Strided g)) = f.sme2 ≡ false
-NoClassOrOff f (D.Known (Quadword g)) = f.sve2p1 ≡ false
+abbrev pub NoClassOrOff : Flags → Option Store → Type 0
+NoClassOrOff f None = Unit {0}
+NoClassOrOff f (Some (Scatter g)) = f.sve ≡ false
+NoClassOrOff f (Some (Strided g)) = f.sme2 ≡ false
+NoClassOrOff f (Some (Quadword g)) = f.sve2p1 ≡ false
 
 -- "1..7 and 12: streaming on and FA64 off; 8..11: streaming off"
-abbrev pub NotInThisMode : Flags → Decoded → Type 0
-NotInThisMode f D.Undefined = ⊥
-NotInThisMode f (D.Known (Scatter g)) = (f.streaming ≡ true) × (f.fa64 ≡ false)
-NotInThisMode f (D.Known (Strided g)) = f.streaming ≡ false
-NotInThisMode f (D.Known (Quadword g)) = (f.streaming ≡ true) × (f.fa64 ≡ false)
+abbrev pub NotInThisMode : Flags → Option Store → Type 0
+NotInThisMode f None = ⊥
+NotInThisMode f (Some (Scatter g)) = (f.streaming ≡ true) × (f.fa64 ≡ false)
+NotInThisMode f (Some (Strided g)) = f.streaming ≡ false
+NotInThisMode f (Some (Quadword g)) = (f.streaming ≡ true) × (f.fa64 ≡ false)
 
 -- "Rn 31 (not class 12)"
-abbrev pub BasedOnSp : Decoded → Type 0
-BasedOnSp D.Undefined = ⊥
-BasedOnSp (D.Known (Scatter g)) = g.rn ≡ 31
-BasedOnSp (D.Known (Strided g)) = g.rn ≡ 31
-BasedOnSp (D.Known (Quadword g)) = ⊥
+abbrev pub BasedOnSp : Option Store → Type 0
+BasedOnSp None = ⊥
+BasedOnSp (Some (Scatter g)) = g.rn ≡ 31
+BasedOnSp (Some (Strided g)) = g.rn ≡ 31
+BasedOnSp (Some (Quadword g)) = ⊥
 
-pub record GivenWhen (f : Flags) (m : Machine) (W L : ℕ) (d : Decoded) (room : ℕ) : Type 0 where
+pub record GivenWhen (f : Flags) (m : Machine) (W L : ℕ) (d : Option Store) (room : ℕ) : Type 0 where
   -- "VB is not one of the five"; "Verdict 1 is amended accordingly and keeps its place." (document 02 (vi))
   pub vector_length : Given 1 (table f m W L d room) ↔ (AllowedLength f.early f.streaming m.vb → ⊥)
   -- "Z or P buffer has another size"
@@ -147,4 +145,4 @@ pub record GivenWhen (f : Flags) (m : Machine) (W L : ℕ) (d : Decoded) (room :
   pub no_room : Given 8 (table f m W L d room) ↔ (room < length (patch_of (elements_for m d)))
 
 abbrev pub TableGivenWhen : Type 0
-TableGivenWhen = (f : Flags) (m : Machine) (W L : ℕ) (d : Decoded) (room : ℕ) → GivenWhen f m W L d room
+TableGivenWhen = (f : Flags) (m : Machine) (W L : ℕ) (d : Option Store) (room : ℕ) → GivenWhen f m W L d room

@@ -1,13 +1,12 @@
 -- Document 01, 'Verdicts, in the order they are checked', 1 to 8, and document 02 (viii)'s 12, for the merged call of document 02 (ix):
 -- "one call checks 1 to 7, 12 and 8 in that order". 'Verdict' is document 01's term for what a call answers. Assumes nothing.
-use Rattle.std.specs.Prelude.{ℕ, ◌*◌, ◌%◌, Bool, true, false, not, cond, ◌&&◌, ◌||◌, List, [], ◌∷◌, eqb, ltb, leb, length}
+use Rattle.std.specs.Prelude.{ℕ, ◌*◌, ◌%◌, Bool, true, false, not, cond, ◌&&◌, ◌||◌, List, [], ◌∷◌, eqb, ltb, leb, length, Some, None, Result, Ok, Err}
+use Rattle.std.specs.Prelude as P
 use Rattle.std.proofs.Math.Option.{Option, none, some}
 use Rattle.encoding.specs.declared.Feature.{Feature}
 use Rattle.encoding.specs.declared.Feature.TheVariants.{SVE, SME2, SVE2p1}
 use Rattle.encoding.specs.Decoding.{decode_of}
 use Rattle.encoding.specs.Encoding.{class_for, feature_of}
-use Rattle.encoding.specs.declared.Decoded.{Decoded}
-use Rattle.encoding.specs.declared.Decoded.TheVariants as D
 use Rattle.encoding.specs.declared.Store.{Store}
 use Rattle.encoding.specs.declared.Store.TheVariants.{Scatter, Strided, Quadword}
 use Rattle.writes.specs.Encoding.{encode}
@@ -17,21 +16,20 @@ use Rattle.elements.specs.Machine.{Machine}
 use Rattle.elements.specs.Stores.{size_of}
 use Rattle.elements.specs.Elements.{elements}
 use Rattle.verdicts.specs.declared.Flags.{Flags}
+use Rattle.verdicts.specs.declared.Done.{Done}
 use Rattle.verdicts.specs.declared.Refusal.{Refusal}
 use Rattle.verdicts.specs.declared.Refusal.TheVariants.{Length, Registers, Window, Undefined, Illegal, Stack, Fault, Overlap, NoRoom}
-use Rattle.verdicts.specs.declared.Verdict.{Verdict}
-use Rattle.verdicts.specs.declared.Verdict.TheVariants.{Done, Refused}
 
 -- ---- the store of a word
 
 -- the active elements of what a word decodes to, and the bytes that each moves, msize/8
-abbrev pub elements_for : Machine → Decoded → List Element
-elements_for m D.Undefined = []
-elements_for m (D.Known s) = elements m s
+abbrev pub elements_for : Machine → P.Option Store → List Element
+elements_for m None = []
+elements_for m (Some s) = elements m s
 
-abbrev pub size_for : Decoded → ℕ
-size_for D.Undefined = 0
-size_for (D.Known s) = size_of (class_for s)
+abbrev pub size_for : P.Option Store → ℕ
+size_for None = 0
+size_for (Some s) = size_of (class_for s)
 
 -- "A store's net effect is the set of the addresses that its active elements write, each with the byte written there last. Its patch is
 -- the encoding of that set". 'Net effect' and 'patch' are document 01's terms.
@@ -60,9 +58,9 @@ flag_on f SVE = f.sve
 flag_on f SME2 = f.sme2
 flag_on f SVE2p1 = f.sve2p1
 
-abbrev pub undefined : Flags → Decoded → Bool
-undefined f D.Undefined = true
-undefined f (D.Known s) = not (flag_on f (feature_of s))
+abbrev pub undefined : Flags → P.Option Store → Bool
+undefined f None = true
+undefined f (Some s) = not (flag_on f (feature_of s))
 
 -- 5 illegal: "1..7 and 12: streaming on and FA64 off; 8..11: streaming off"; 13 to 24 as 1 to 7, 25 to 36 as 8 to 11
 abbrev pub illegal : Flags → Feature → Bool
@@ -70,9 +68,9 @@ illegal f SVE = f.streaming && not f.fa64
 illegal f SME2 = not f.streaming
 illegal f SVE2p1 = f.streaming && not f.fa64
 
-abbrev pub illegal_for : Flags → Decoded → Bool
-illegal_for f D.Undefined = false
-illegal_for f (D.Known s) = illegal f (feature_of s)
+abbrev pub illegal_for : Flags → P.Option Store → Bool
+illegal_for f None = false
+illegal_for f (Some s) = illegal f (feature_of s)
 
 -- 6 stack: "Rn 31 (not class 12), SP check on, SP not a multiple of 16, and an active element or the second SP flag"
 abbrev pub on_stack : Store → Bool
@@ -88,9 +86,9 @@ some_active (x ∷ xs) = true
 abbrev pub stack : Flags → ℕ → Bool → List Element → Bool
 stack f sp s es = s && f.sp_check && not (eqb (sp % 16) 0) && (some_active es || f.sp_check_none_active)
 
-abbrev pub stack_for : Flags → Machine → Decoded → Bool
-stack_for f m D.Undefined = false
-stack_for f m (D.Known s) = stack f m.sp (on_stack s) (elements m s)
+abbrev pub stack_for : Flags → Machine → P.Option Store → Bool
+stack_for f m None = false
+stack_for f m (Some s) = stack f m.sp (on_stack s) (elements m s)
 
 -- 7 fault: "some active element has a byte outside the window"; the lowest such element
 unfoldable pub first_outside : ℕ → ℕ → List Element → Option Element
@@ -129,7 +127,7 @@ row n c r = record { number = n; given = c; returned = r }
 
 -- document 01's table, line by line, on flags and machine, for a window of L bytes at W, what the word decodes to, and a patch buffer of
 -- `room` bytes; 12 "stands after 7 and before 8" (document 02 (viii))
-abbrev pub table : Flags → Machine → ℕ → ℕ → Decoded → ℕ → List Row
+abbrev pub table : Flags → Machine → ℕ → ℕ → P.Option Store → ℕ → List Row
 table f m W L d room =
     row 1 (not (length_ok f.early f.streaming m.vb)) Length
     ∷ row 2 (not (registers_ok m)) Registers
@@ -142,15 +140,22 @@ table f m W L d room =
     ∷ row 8 (ltb room (length (patch_of (elements_for m d)))) NoRoom
     ∷ []
 
+-- what a call answers: a store that is done, by active elements, bytes, the patch's length and the steps, or a refusal
+abbrev pub Verdict : Type 0
+Verdict = Result Done Refusal
+
+abbrev pub done : ℕ → ℕ → ℕ → ℕ → Verdict
+done n b k s = Ok (record { elements = n; bytes = b; length = k; steps = s })
+
 -- the first line whose condition holds decides, and done is what stands behind the last
 unfoldable pub decided : List Row → Verdict → Verdict
 decided [] done = done
-decided (r ∷ rs) done = cond r.given (Refused r.returned) (decided rs done)
+decided (r ∷ rs) done = cond r.given (Err r.returned) (decided rs done)
 
 -- "Done reports the number of active elements and the number of bytes moved, the first times msize/8."; "besides the two counts, the
 -- patch's length"; document 02 (iv): "The steps are counted"
 abbrev pub done_of : List Element → ℕ → Verdict
-done_of es size = Done (length es) (length es * size) (length (patch_of es)) (steps_of es)
+done_of es size = done (length es) (length es * size) (length (patch_of es)) (steps_of es)
 
 -- the verdict on a word
 unfoldable pub verdict_of : Flags → Machine → ℕ → ℕ → ℕ → ℕ → Verdict
@@ -172,8 +177,8 @@ refusal_number NoRoom = 8
 
 -- "Done is number 0"
 abbrev pub number : Verdict → ℕ
-number (Done n b k s) = 0
-number (Refused r) = refusal_number r
+number (Ok d) = 0
+number (Err r) = refusal_number r
 
 -- element and address of a refusal's detail: zeros but for 7 and 12
 abbrev pub detail : Refusal → List ℕ

@@ -33,16 +33,21 @@ pub enum Refusal {
     NoRoom,
 }
 
-// What a store answers.
+// The lowest active element with a byte outside the window, and its first address.
 #[derive(Clone, Copy)]
-pub enum Verdict {
-    Done {
-        elements: u64,
-        bytes: u64,
-        length: u64,
-        steps: u64,
-    },
-    Refused {
-        refusal: Refusal,
-    },
+pub struct Outside {
+    pub element: u64,
+    pub address: u64,
 }
+
+// A store that is done: its active elements, the bytes that they move, the length of its patch, and its steps.
+#[derive(Clone, Copy)]
+pub struct Done {
+    pub elements: u64,
+    pub bytes: u64,
+    pub length: u64,
+    pub steps: u64,
+}
+
+// What a store answers.
+pub type Verdict = Result<Done, Refusal>;

@@ -54,7 +54,7 @@ pub fn limit_of(room: u64, n: u64) -> u64
 pub fn is_past(base: u64, limit: u64, start: u64) -> bool
     ensures { result ≡ nat_le limit (offset_in base start) }
 {
-    limit <= std::num::wrapping_sub_u64(start, base)
+    limit <= start.wrapping_sub(base)
 }
 
 // In a window that is one, the first byte from `start` on that isn't in it: that at `start`, or else the one behind the window, modulo
@@ -63,7 +63,7 @@ pub fn first_outside(base: u64, room: u64, start: u64) -> u64
     ensures { result ≡ (if in_window base room start 1 then (base + room) % 2 ^ 64 else start) }
 {
     if inside(base, room, start, 1) {
-        return std::num::wrapping_add_u64(base, room);
+        return base.wrapping_add(room);
     }
     start
 }

@@ -3,12 +3,14 @@ use mathlib.Core.Path.{◌≡◌, refl, sym, ap, ap₂, ◌∙◌, subst}
 use Prim.Native.Nat.{ℕ, suc, ◌+◌, ◌-◌, ◌*◌, ◌≤◌, ◌<◌}
 use mathlib.Core.List.{List, [], ◌∷◌}
 use native.Mathlib.Omega.{arith}
-use lib.ListN.{length, get_or}
+use lib.ListN.{length, drop, get_or}
+use lib.Seq.{drop-cons}
+use Rattle.std.proofs.lemmas.List.{drop_all}
+use native.Mathlib.Numerals.{add-one}
 use Rattle.writes.specs.Elements.{Element, written}
 use Rattle.endian.specs.Overwriting.{overwritten}
 use Rattle.endian.proofs.Parts.{length_over}
-use Rattle.ordering.specs.Keys.{number_of, entries, Each}
-use Rattle.ordering.proofs.Sorting.{entries-cons, entries_none, entries-all}
+use Rattle.ordering.specs.Keys.{number_of, Each}
 use Rattle.stretches.specs.Stretches.{start_of, Seen, key_of, keys_of}
 use Rattle.stretches.proofs.Keying.{key-start, key-number}
 use Rattle.cutting.specs.Cutting.{part}
@@ -16,36 +18,32 @@ use Rattle.cutting.proofs.Copying.{length-of-part}
 use Rattle.writing.specs.Writing.{put_all, Placed, Held}
 
 -- the keys from t on are left
-pub record Writing (A : List ℕ) (n step size : ℕ) (stored mem₀ mem : List ℕ) (t : ℕ) : Type 0 where
-  pub most : t ≤ n
+pub record Writing (K : List ℕ) (step size : ℕ) (stored mem₀ mem : List ℕ) (t : ℕ) : Type 0 where
+  pub most : t ≤ length K
   pub long : length mem ≡ length mem₀
-  pub placed : Each (λ k. Placed step size (length mem₀) (length stored) k) (entries A t (n - t))
-  pub same : put_all step size stored (entries A t (n - t)) mem ≡ put_all step size stored (entries A 0 n) mem₀
+  pub placed : Each (λ k. Placed step size (length mem₀) (length stored) k) (drop t K)
+  pub same : put_all step size stored (drop t K) mem ≡ put_all step size stored K mem₀
 
-module _ (A : List ℕ) (n step size : ℕ) (stored mem₀ : List ℕ) where
-  pub writing-first : Each (λ k. Placed step size (length mem₀) (length stored) k) (entries A 0 n)
-      → Writing A n step size stored mem₀ mem₀ 0
-  writing-first p =
-      record {
-        most = omega arith;
-        long = refl;
-        placed = rw (entries-all A n) p;
-        same = ap (λ (K : List ℕ). put_all step size stored K mem₀) (entries-all A n);
-      }
+module _ (K : List ℕ) (step size : ℕ) (stored mem₀ : List ℕ) where
+  pub writing-first : Each (λ k. Placed step size (length mem₀) (length stored) k) K → Writing K step size stored mem₀ mem₀ 0
+  writing-first p = record { most = omega arith; long = refl; placed = p; same = refl }
 
-  module _ (mem : List ℕ) (t : ℕ) (w : Writing A n step size stored mem₀ mem t) where
-    module _ (h : t < n) where
-      here : Each (λ k. Placed step size (length mem₀) (length stored) k) (get_or A t 0 ∷ entries A (t + 1) (n - (t + 1)))
-      here = subst (Each (λ k. Placed step size (length mem₀) (length stored) k)) (entries-cons A n t h) w.placed
+  module _ (mem : List ℕ) (t : ℕ) (w : Writing K step size stored mem₀ mem t) where
+    module _ (h : t < length K) where
+      left : drop t K ≡ get_or K t 0 ∷ drop (t + 1) K
+      left = rw (add-one, drop-cons K t 0 h)
+
+      here : Each (λ k. Placed step size (length mem₀) (length stored) k) (get_or K t 0 ∷ drop (t + 1) K)
+      here = subst (Each (λ k. Placed step size (length mem₀) (length stored) k)) left w.placed
 
       -- s, e: the key's offset and number, as the code has them
-      pub writing-room : (s e : ℕ) → s ≡ start_of (get_or A t 0) → e ≡ number_of (get_or A t 0)
+      pub writing-room : (s e : ℕ) → s ≡ start_of (get_or K t 0) → e ≡ number_of (get_or K t 0)
           → (s + size ≤ length mem) × (e * step + size ≤ length stored)
       writing-room s e es ee =
           (omega (arith, here.0.0, w.long), subst (λ (z : ℕ). z * step + size ≤ length stored) (sym ee) here.0.1)
 
-      pub writing-next : (s e : ℕ) (mem' : List ℕ) → s ≡ start_of (get_or A t 0) → e ≡ number_of (get_or A t 0)
-          → mem' ≡ overwritten mem s (part stored (e * step) size) → Writing A n step size stored mem₀ mem' (t + 1)
+      pub writing-next : (s e : ℕ) (mem' : List ℕ) → s ≡ start_of (get_or K t 0) → e ≡ number_of (get_or K t 0)
+          → mem' ≡ overwritten mem s (part stored (e * step) size) → Writing K step size stored mem₀ mem' (t + 1)
       unfolding put_all
       writing-next s e mem' es ee q =
           let r = writing-room s e es ee in
@@ -54,15 +52,15 @@ module _ (A : List ℕ) (n step size : ℕ) (stored mem₀ : List ℕ) where
             long = ap length q ∙ length_over mem s (part stored (e * step) size)
                 (omega (arith, r.0, length-of-part stored (e * step) size r.1)) ∙ w.long;
             placed = here.1;
-            same = ap (put_all step size stored (entries A (t + 1) (n - (t + 1))))
+            same = ap (put_all step size stored (drop (t + 1) K))
                 (q ∙ ap₂ (λ (y z : ℕ). overwritten mem y (part stored (z * step) size)) es ee)
-                ∙ ap (λ (K : List ℕ). put_all step size stored K mem) (sym (entries-cons A n t h))
+                ∙ ap (λ (L : List ℕ). put_all step size stored L mem) (sym left)
                 ∙ w.same;
           }
 
-    pub writing-done : n ≤ t → mem ≡ put_all step size stored (entries A 0 n) mem₀
+    pub writing-done : length K ≤ t → mem ≡ put_all step size stored K mem₀
     unfolding put_all
-    writing-done h = ap (λ (K : List ℕ). put_all step size stored K mem) (sym (entries_none A n t h)) ∙ w.same
+    writing-done h = ap (λ (L : List ℕ). put_all step size stored L mem) (sym (drop_all t K h)) ∙ w.same
 
 -- ---- the keys of elements
 

@@ -3,7 +3,7 @@
 
 ghost use Rattle.std.specs.Prelude.{◌≡◌, true, ◌*◌, ◌<◌, ◌≤◌, length};
 ghost use Rattle.elements.specs.Accesses.{is_width};
-ghost use Rattle.ordering.specs.Keys.{number_of, entries, Each};
+ghost use Rattle.ordering.specs.Keys.{number_of, Each};
 ghost use Rattle.writing.specs.Writing.{put_all, Placed};
 
 use elements::Counts;
@@ -16,62 +16,48 @@ fn number_of(k: u32) -> usize
 }
 
 // Writes the elements of the keys in their order, each to its part of memory, and counts them.
-pub fn write_keys(
+pub fn write_keys<const SIZE: usize>(
     keys: &[u32],
-    n: usize,
     step: usize,
-    size: usize,
     stored: &[u8],
     memory: &mut [u8],
 ) -> Counts
-    requires n_in_bounds { (n ≤ length keys.now) × (n ≤ 64) × (size ≤ 256) }
-    requires each { Each (λ k. Placed step size (length memory.old) (length stored.now) k) (entries keys.now 0 n) }
-    ensures elements_value { (result.elements ≡ n) × (result.bytes ≡ n * size) }
-    ensures memory_after { memory.new ≡ put_all step size stored.now (entries keys.now 0 n) memory.old }
+    requires few { (length keys.now ≤ 64) × (SIZE ≤ 256) }
+    requires each { Each (λ k. Placed step SIZE (length memory.old) (length stored.now) k) keys.now }
+    ensures elements_value { (result.elements ≡ length keys.now) × (result.bytes ≡ length keys.now * SIZE) }
+    ensures memory_after { memory.new ≡ put_all step SIZE stored.now keys.now memory.old }
 {
     let mut elements: u64 = 0;
     let mut bytes: u64 = 0;
-    let mut t = 0;
-    while t < n {
-        let k = keys[t];
-        let at = stretches::start_of(k);
-        let to = at + size;
-        let from = number_of(k) * step;
-        let end = from + size;
-        endian::copy(&mut memory[at..to], &stored[from..end]);
+    for k in keys {
+        let at = stretches::start_of(*k);
+        let from = number_of(*k) * step;
+        memory[at..at + SIZE].copy_from_slice(&stored[from..from + SIZE]);
         elements += 1;
-        bytes += size as u64;
-        t += 1;
+        bytes += SIZE as u64;
     }
     Counts { elements, bytes }
 }
 
-// The same with a constant for each size, so that the compiler makes a loop of its own for it, and none calls `copy_any`.
+// The same for a size that is known when the program runs: the compiler makes a loop of its own for each.
 pub fn write_vector(
     keys: &[u32],
-    n: usize,
     step: usize,
     size: usize,
     stored: &[u8],
     memory: &mut [u8],
 ) -> Counts
-    requires n_in_bounds { (n ≤ length keys.now) × (n ≤ 64) × (size ≤ 256) }
+    requires few { length keys.now ≤ 64 }
     requires size_value { (is_width size ≡ true) × (size ≡ 8 → step ≡ 8) × (size ≡ 16 → step ≡ 16) }
-    requires each { Each (λ k. Placed step size (length memory.old) (length stored.now) k) (entries keys.now 0 n) }
-    ensures elements_value { (result.elements ≡ n) × (result.bytes ≡ n * size) }
-    ensures memory_after { memory.new ≡ put_all step size stored.now (entries keys.now 0 n) memory.old }
+    requires each { Each (λ k. Placed step size (length memory.old) (length stored.now) k) keys.now }
+    ensures elements_value { (result.elements ≡ length keys.now) × (result.bytes ≡ length keys.now * size) }
+    ensures memory_after { memory.new ≡ put_all step size stored.now keys.now memory.old }
 {
-    if size == 8 {
-        return write_keys(keys, n, 8, 8, stored, memory);
+    match size {
+        1 => write_keys::<1>(keys, step, stored, memory),
+        4 => write_keys::<4>(keys, step, stored, memory),
+        8 => write_keys::<8>(keys, 8, stored, memory),
+        16 => write_keys::<16>(keys, 16, stored, memory),
+        _ => write_keys::<2>(keys, step, stored, memory),
     }
-    if size == 1 {
-        return write_keys(keys, n, step, 1, stored, memory);
-    }
-    if size == 16 {
-        return write_keys(keys, n, 16, 16, stored, memory);
-    }
-    if size == 4 {
-        return write_keys(keys, n, step, 4, stored, memory);
-    }
-    write_keys(keys, n, step, 2, stored, memory)
 }

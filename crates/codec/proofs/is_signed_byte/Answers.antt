@@ -5,5 +5,5 @@ use Rattle.codec.proofs.is_signed_byte.Goals as goal
 
 pub returns : goal.returns
 returns c =
-    signed-byte c.args.bits c.wrapping_add_u64.result _ c.ranges.bits.fits (omega (arith, c.wrapping_add_u64.ensures))
+    signed-byte c.args.bits _ _ c.ranges.bits.fits (omega arith)
     (omega arith)

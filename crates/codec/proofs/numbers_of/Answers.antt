@@ -24,7 +24,7 @@ returns-in-Strided c =
     let f = c.in-Strided.f in
     c.strided_numbers.ensures
     ∙ ap (λ (n : ℕ). f.class ∷ f.rm ∷ 0 ∷ f.pc ∷ f.rn ∷ f.first ∷ n ∷ 0 ∷ [])
-    (c.bits_of.ensures ∙ ap (of_z w64) (wide_is f.multiple (byte (goal.at.returns-in-Strided c).In-Strided)))
+    (c.cast_unsigned.ensures ∙ ap (of_z w64) (wide_is f.multiple (byte (goal.at.returns-in-Strided c).In-Strided)))
     ∙ ap store_numbers (sym c.in-Strided.is)
 
 pub returns-in-Quadword : goal.returns-in-Quadword

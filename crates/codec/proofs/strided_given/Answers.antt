@@ -4,22 +4,22 @@ use Rattle.encoding.proofs.Signed.{narrow-fits, narrow-is}
 use Rattle.encoding.specs.declared.Store.TheVariants.{Strided}
 use Rattle.codec.specs.Codec.{entry}
 use Rattle.codec.proofs.strided_given.Goals as goal
-use Rattle.codec.proofs.strided_given.Goals.{After-signed_of}
+use Rattle.codec.proofs.strided_given.Goals.{After-cast_signed}
 
 -- entry 6, read as signed, has 8 bits
-byte : (c : After-signed_of) → SFits w8 (to_z w64 (entry c.args.fields.now 6))
+byte : (c : After-cast_signed) → SFits w8 (to_z w64 (entry c.args.fields.now 6))
 byte c = c.requires.at6
 
 pub overflow_cast-result-3 : goal.overflow_cast-result-3
 overflow_cast-result-3 c =
-    let m = c.signed_of in
-    narrow-fits m.result _ (record { sfits = m.type_inv }) m.ensures (byte (goal.at.overflow_cast-result-3 c).After-signed_of)
+    let m = c.cast_signed in
+    narrow-fits m.result _ (record { sfits = m.type_inv }) m.ensures (byte (goal.at.overflow_cast-result-3 c).After-cast_signed)
 
 pub returns : goal.returns
 returns c =
     let es = c.args.fields.now in
-    let m = c.signed_of in
-    let z = narrow-is m.result _ (record { sfits = m.type_inv }) m.ensures (byte (goal.at.returns c).After-signed_of) in
+    let m = c.cast_signed in
+    let z = narrow-is m.result _ (record { sfits = m.type_inv }) m.ensures (byte (goal.at.returns c).After-cast_signed) in
     λ i.
     Strided
     (record {

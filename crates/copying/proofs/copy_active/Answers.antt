@@ -1,5 +1,5 @@
 -- `copy_active`. The loop's invariant is `Copied`: the active elements below k, those of the registers passed, are copied and counted.
--- The measure is how many registers are left. Assumes nothing.
+-- Assumes nothing.
 use Rattle.std.proofs.Common.{◌≡◌, ℕ, ◌+◌, ◌-◌, ◌*◌, ◌≤◌, ◌<◌, length, ap, ◌∙◌, mul-le-mul_right, arith, length-drop}
 use native.Mathlib.Nat.{mul-le-mul}
 use Rattle.elements.specs.declared.StridedAccess.{StridedAccess}
@@ -22,13 +22,10 @@ overflow_mul-r c = omega (arith, row_small c.args.s c.args.vb c.requires.strided
 
 -- ---- it has none
 
-pub overflow_add-r-then-to-k : goal.overflow_add-r-then-to-k
-overflow_add-r-then-to-k c = omega (arith, c.requires.strided_sound.nreg)
-
 pub loop-r-preserved-then-to-k : goal.loop-r-preserved-then-to-k
 loop-r-preserved-then-to-k c =
     copied-off c.requires.strided_sound c.args.z.now c.requires.z_len c.args.memory.now c.args.«at» c.loop-r-test.true
-    c.loop-r.invariant (omega (arith, c.lower-to.ensures)) c.if-to-k.true
+    c.loop-r.invariant (omega (arith, c.min-to.ensures)) c.if-to-k.true
 
 -- ---- it is copied: where its elements are in the register, and in memory
 
@@ -43,10 +40,10 @@ module _ (c : Else-to-k) where
   r = c.loop-r.r
 
   abbrev to : ℕ
-  to = c.lower-to.result
+  to = c.min-to.result
 
   ends : to ≡ s.high - (s.high - (r + 1) * s.per)
-  ends = omega (arith, c.lower-to.ensures)
+  ends = omega (arith, c.min-to.ensures)
 
   some : k < to
   some = c.if-to-k.false
@@ -169,9 +166,6 @@ overflow_add-bytes c =
       mul-le-mul_right (s e).size l,
       mul-le-mul_right (s e).size m,
     )
-
-pub overflow_add-r-in-loop-r : goal.overflow_add-r-in-loop-r
-overflow_add-r-in-loop-r c = omega (arith, c.requires.strided_sound.nreg)
 
 pub loop-r-preserved : goal.loop-r-preserved
 loop-r-preserved c =

@@ -62,9 +62,6 @@ overflow_add-elements c = omega (arith, c.loop-e.invariant.counted, c.loop-e.inv
 pub overflow_add-bytes : goal.overflow_add-bytes
 overflow_add-bytes c = omega (arith, (small (goal.at.overflow_add-bytes c).In-loop-e).0)
 
-pub overflow_add-e : goal.overflow_add-e
-overflow_add-e c = omega (arith, c.requires.few)
-
 pub loop-e-preserved : goal.loop-e-preserved
 loop-e-preserved c =
     let k = (goal.at.loop-e-preserved c).In-loop-e in

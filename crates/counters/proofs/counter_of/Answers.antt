@@ -5,6 +5,7 @@ use Prim.Native.Nat.{ℕ, ◌+◌, ◌*◌, ◌/◌, ◌≤◌, ◌<◌}
 use native.Mathlib.Omega.{arith}
 use lib.ListN.{length, take}
 use Rattle.endian.specs.LittleEndian.{le_val}
+use Rattle.elements.specs.Machine.{register}
 use Rattle.elements.proofs.Numbers.{register-within, register-long}
 use Rattle.counters.proofs.counter_of.Goals as goal
 use Rattle.counters.proofs.counter_of.Goals.{Start}
@@ -25,4 +26,6 @@ le16-requires c =
     )
 
 pub returns : goal.returns
-returns c = c.le16.ensures.0 ∙ ap (λ (r : List ℕ). le_val (take 2 r)) c.register_of.ensures
+returns c =
+    c.le16.ensures.0 ∙ ap (λ (r : List ℕ). le_val (take 2 r)) c.register_of.ensures
+    ∙ ap (λ (n : ℕ). le_val (take 2 (register (c.args.vb / 8) c.args.p.now (8 + n)))) c.from.ensures

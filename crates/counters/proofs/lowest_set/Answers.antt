@@ -1,18 +1,30 @@
--- `lowest_set`: bit by bit from the lowest. No loop. Assumes nothing.
-use native.Mathlib.Omega.{arith}
-use Rattle.elements.proofs.Leaves.{lowest-0, lowest-1, lowest-2, lowest-3}
+-- `lowest_set`: the zeros below the lowest set bit, three at most. No loop. Assumes nothing.
+use Rattle.std.proofs.Common.{◌≡◌, ℕ, suc, ◌/◌, ◌%◌, ◌<◌, ◌≤◌, min, ap, ◌∙◌, arith}
+use Rattle.std.specs.Int.Count.{count_trailing_zeros}
+use lib.Count.{under}
+use Rattle.std.proofs.lemmas.Bool.Decides.{nat_tests}
+use Rattle.elements.specs.Counter.{lowest_set}
 use Rattle.counters.proofs.lowest_set.Goals as goal
 
-pub returns-then-v-eq1 : goal.returns-then-v-eq1
-returns-then-v-eq1 c = (lowest-0 c.args.v c.if-v-eq1.true, omega arith)
+module _ (k v : ℕ) where
+  odd : 1 ≤ v % 2 → count_trailing_zeros (suc k) v ≡ 0
+  unfolding count_trailing_zeros
+  odd h = let e : v % 2 ≡ 1 = omega arith in ap (λ (d : ℕ). under d (count_trailing_zeros k (v / 2))) e
 
-pub returns-then-v-eq2 : goal.returns-then-v-eq2
-returns-then-v-eq2 c = (lowest-1 c.args.v c.if-v-eq1.false c.if-v-eq2.true, omega arith)
+  even : v % 2 < 1 → count_trailing_zeros (suc k) v ≡ suc (count_trailing_zeros k (v / 2))
+  unfolding count_trailing_zeros
+  even h = let e : v % 2 ≡ 0 = omega arith in ap (λ (d : ℕ). under d (count_trailing_zeros k (v / 2))) e
 
-pub returns-then-v-eq4 : goal.returns-then-v-eq4
-returns-then-v-eq4 c =
-    (lowest-2 c.args.v c.if-v-eq1.false c.if-v-eq2.false c.if-v-eq4.true, omega arith)
+lowest : (k v : ℕ) → min (count_trailing_zeros (suc (suc (suc k))) v) 3 ≡ lowest_set v
+unfolding lowest_set
+lowest k v =
+    let a = odd (suc (suc k)) v in
+    let a' = even (suc (suc k)) v in
+    let b = odd (suc k) (v / 2) in
+    let b' = even (suc k) (v / 2) in
+    let d = odd k (v / 2 / 2) in
+    let d' = even k (v / 2 / 2) in
+    grind (arith, nat_tests)
 
 pub returns : goal.returns
-returns c =
-    (lowest-3 c.args.v c.if-v-eq1.false c.if-v-eq2.false c.if-v-eq4.false, omega arith)
+returns c = (c.min.ensures ∙ lowest 61 c.args.v, omega arith)

@@ -7,29 +7,30 @@ use Rattle.endian.specs.Overwriting.{overwritten}
 use Rattle.stretches.specs.Intervals.{Interval}
 use Rattle.cutting.specs.Cutting.{cut}
 use Rattle.cutting.proofs.Composing.{composing-done}
-use Rattle.cutting.proofs.Spacing.{spaced-one, spaced-in, total-one}
+use Rattle.cutting.proofs.Spacing.{spaced-one, total-one}
+use Rattle.cutting.proofs.Turning.{apart-in}
 use Rattle.cutting.proofs.compose_spaced.Goals as goal
 
 pub compose_one-length-requires : goal.compose_one-length-requires
 compose_one-length-requires c =
-    let a = c.args in
     let p = c.requires in
-    let t = total-one a.gap a.size a.first a.count c.if-count-eq1.true in
-    (p.le_size.0, spaced-in _ _ _ _ _ _ (omega arith) p.separate, omega (arith, t, p.le_size.4), p.le_size.3)
+    let r = c.args.runs in
+    let t = total-one r.gap r.size r.first r.count c.if-runs-eq1.true in
+    (p.some, apart-in _ _ _ _ p (omega arith), omega (arith, t, p.room), p.top)
 
-pub returns-then-count-eq1 : goal.returns-then-count-eq1
-returns-then-count-eq1 c =
+pub returns-then-runs-eq1 : goal.returns-then-runs-eq1
+returns-then-runs-eq1 c =
     let a = c.args in
-    let e = c.if-count-eq1.true in
-    let t = total-one a.gap a.size a.first a.count e in
+    let r = a.runs in
+    let e = c.if-runs-eq1.true in
     let q = c.compose_one-length.ensures in record {
-      length_value = (omega (arith, t, q.value), sym e);
+      length_value = (omega (arith, total-one r.gap r.size r.first r.count e, q.value), sym e);
       out_after = q.out_after ∙ ap (λ (J : List Interval). overwritten a.out.now 0 (encode_runs (cut a.w a.memory.now J)))
           (sym (spaced-one _ _ _ _ e));
     }
 
 pub returns : goal.returns
 returns c =
-    let p = c.requires in
-    let d = composing-done _ _ _ _ p.le_size.4 _ _ _ _ c.put_spaced-put.ensures.0 refl _ c.put_trailer.ensures in
-    record { length_value = (omega (arith, d.0), omega (arith, c.put_spaced-put.ensures.1)); out_after = d.1 }
+    let q = c.put_spaced-put.ensures in
+    let d = composing-done _ _ _ _ c.requires.room _ _ _ _ q.0 refl _ c.put_trailer.ensures in
+    record { length_value = (omega (arith, d.0), q.1); out_after = d.1 }

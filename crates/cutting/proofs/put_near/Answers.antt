@@ -1,89 +1,71 @@
--- `put_near`: one run after another, each head two numbers. The invariant is `Composing`, as in `put_apart`, and that `head` is the mark
--- and the next start, less its upper two bytes, which are the first start's. Assumes nothing.
+-- `put_near`: one run after another, each head two numbers. Assumes nothing.
 use mathlib.Core.Path.{refl}
-use Prim.Native.Nat.{◌+◌, ◌/◌, ◌^◌, ◌≤◌}
+use Prim.Native.Nat.{◌+◌, ◌/◌, ◌^◌}
 use native.Mathlib.Omega.{arith}
-use lib.ListN.{length}
 use Rattle.cutting.proofs.Putting.{head-numbers, tail-small}
 use Rattle.cutting.proofs.Copying.{headed-run}
-use Rattle.cutting.proofs.Composing.{composing-first, composing-room, composing-next, composing-none}
-use Rattle.cutting.proofs.Spacing.{spaced-next, spaced-none, spaced-all, spaced-in}
+use Rattle.cutting.proofs.Turning.{apart-in, turn-first, turn-room, turn-next, turn-done}
 use Rattle.cutting.proofs.put_near.Goals as goal
-use Rattle.cutting.proofs.put_near.Goals.{In-loop-steps, Start}
-
--- the first run lies in memory
-inside : (c : Start) → c.args.first + c.args.size ≤ length c.args.memory.now
-inside c = spaced-in _ _ _ _ _ _ c.requires.le_count.0 c.requires.separate
-
--- its run fits memory and buffer
-room : (i : In-loop-steps)
-    → (i.loop-steps.p + i.args.size ≤ length i.args.memory.now)
-    × (i.loop-steps.to + 12 + i.args.size + 4 ≤ length i.loop-steps.out)
-room i =
-    composing-room _ _ _ _ i.requires.le_size.4 _ _ _ _ i.loop-steps.invariant.2 _ _ _ (spaced-next _ _ _ _ _ _ i.loop-steps-test.true refl)
 
 pub overflow_add-start : goal.overflow_add-start
-overflow_add-start c = omega (arith, inside (goal.at.overflow_add-start c).Start, c.requires.le_size)
+overflow_add-start c =
+    let p = c.requires.apart in
+    omega (arith, apart-in _ _ _ _ p c.requires.near.0, p.some, p.top)
 
 pub overflow_mul-tail : goal.overflow_mul-tail
-overflow_mul-tail c = omega (arith, inside (goal.at.overflow_mul-tail c).Start, c.requires.le_size)
+overflow_mul-tail c =
+    let p = c.requires.apart in
+    omega (arith, apart-in _ _ _ _ p c.requires.near.0, p.small)
 
 pub overflow_add-tail : goal.overflow_add-tail
 overflow_add-tail c =
-    let p = c.requires.le_size in
-    let i = inside (goal.at.overflow_add-tail c).Start in
-    record { fits = tail-small _ _ (omega (arith, i, p.0, p.3)) (omega (arith, i, p.2)) }
+    let p = c.requires.apart in
+    let i = apart-in _ _ _ _ p c.requires.near.0 in
+    record { fits = tail-small _ _ (omega (arith, i, p.some, p.top)) (omega (arith, i, p.small)) }
 
-pub loop-steps-init : goal.loop-steps-init
-loop-steps-init c =
-    let p = c.requires in
-    (omega arith, omega arith, composing-first _ _ _ _ p.le_size.4 _ (spaced-all _ _ _ _) p.separate)
+pub loop-i-init : goal.loop-i-init
+loop-i-init c = (omega arith, turn-first _ _ _ _ c.requires.apart)
 
 pub put_headed-requires : goal.put_headed-requires
 put_headed-requires c =
-    let r = room (goal.at.put_headed-requires c).In-loop-steps in
-    (c.requires.le_size.0, omega (arith, r), r.0)
+    let p = c.requires.apart in
+    let r = turn-room _ _ _ _ p _ _ _ _ _ c.loop-i.invariant.1 c.loop-i-test.true in
+    (p.some, omega (arith, r), r.0)
 
-pub overflow_mul-head-in-loop-steps : goal.overflow_mul-head-in-loop-steps
-overflow_mul-head-in-loop-steps c = omega (arith, room (goal.at.overflow_mul-head-in-loop-steps c).In-loop-steps, c.requires.le_size)
-
-pub overflow_add-head-in-loop-steps : goal.overflow_add-head-in-loop-steps
-overflow_add-head-in-loop-steps c =
-    let p = c.requires in
-    omega (arith, room (goal.at.overflow_add-head-in-loop-steps c).In-loop-steps, p.le_size, p.le_count.1, c.loop-steps.invariant.1)
+pub overflow_add-head-in-loop-i : goal.overflow_add-head-in-loop-i
+overflow_add-head-in-loop-i c =
+    let p = c.requires.apart in
+    let i = c.loop-i.invariant in
+    omega (arith, turn-room _ _ _ _ p _ _ _ _ _ i.1 c.loop-i-test.true, p.some, p.near, p.small, p.top, c.requires.near.1, i.0)
 
 pub overflow_add-to : goal.overflow_add-to
-overflow_add-to c = omega (arith, room (goal.at.overflow_add-to c).In-loop-steps, c.requires.le_size)
+overflow_add-to c =
+    let p = c.requires.apart in
+    omega (arith, turn-room _ _ _ _ p _ _ _ _ _ c.loop-i.invariant.1 c.loop-i-test.true, p.small)
 
-pub overflow_add-to-in-loop-steps : goal.overflow_add-to-in-loop-steps
-overflow_add-to-in-loop-steps c = omega (arith, room (goal.at.overflow_add-to-in-loop-steps c).In-loop-steps, c.requires.le_size)
+pub overflow_add-to-in-loop-i : goal.overflow_add-to-in-loop-i
+overflow_add-to-in-loop-i c =
+    omega (arith, turn-room _ _ _ _ c.requires.apart _ _ _ _ _ c.loop-i.invariant.1 c.loop-i-test.true)
 
 pub overflow_add-p : goal.overflow_add-p
-overflow_add-p c = omega (arith, room (goal.at.overflow_add-p c).In-loop-steps, c.requires.le_size)
+overflow_add-p c =
+    let p = c.requires.apart in
+    omega (arith, turn-room _ _ _ _ p _ _ _ _ _ c.loop-i.invariant.1 c.loop-i-test.true, p.small, p.near)
 
-pub overflow_add-steps : goal.overflow_add-steps
-overflow_add-steps c = omega (arith, room (goal.at.overflow_add-steps c).In-loop-steps, c.requires.le_size)
-
-pub loop-steps-smaller : goal.loop-steps-smaller
-loop-steps-smaller c = omega (arith, room (goal.at.loop-steps-smaller c).In-loop-steps, c.requires.le_size)
-
-pub loop-steps-preserved : goal.loop-steps-preserved
-loop-steps-preserved c =
-    let l = c.loop-steps in
-    let p = c.requires in
-    let r = room (goal.at.loop-steps-preserved c).In-loop-steps in
-    let h = (c.args.w + c.args.first) / 2 ^ 48 in (
-      omega arith,
-      omega (arith, l.invariant.1),
-      composing-next _ _ _ _ p.le_size.4 _ _ _ _ l.invariant.2 _ _ _ _ _
-          (spaced-next _ _ _ _ _ _ c.loop-steps-test.true (omega arith))
+pub loop-i-preserved : goal.loop-i-preserved
+loop-i-preserved c =
+    let p = c.requires.apart in
+    let i = c.loop-i.invariant in
+    let r = turn-room _ _ _ _ p _ _ _ _ _ i.1 c.loop-i-test.true in
+    let h = (c.args.w + c.args.runs.first) / 2 ^ 48 in (
+      omega (arith, i.0),
+      turn-next _ _ _ _ p _ _ _ _ _ i.1 _ _ _ c.loop-i-test.true
           (headed-run _ _ _ _ _ _ _ _ _
-          (head-numbers _ _ h _ _ (omega (arith, r, p.le_size)) (omega (arith, r, p.le_size, p.le_count.1)) l.invariant.1 (omega arith))
+          (head-numbers _ _ h _ _ (omega (arith, r, p.some, p.top)) (omega (arith, r, p.small, c.requires.near.1)) i.0 (omega arith))
           c.put_headed.ensures)
+          refl
           (omega arith),
     )
 
 pub returns : goal.returns
-returns c =
-    let h = c.loop-steps.invariant in
-    (composing-none _ _ _ _ c.requires.le_size.4 _ _ _ _ h.2 (spaced-none _ _ _ _ _ (omega arith)), omega (arith, h.0))
+returns c = turn-done _ _ _ _ c.requires.apart _ _ _ _ _ c.loop-i.invariant.1 (omega arith)

@@ -6,6 +6,4 @@ pub returns : goal.returns
 returns c =
     let a = c.args in
     let e : c.scaled.result ≡ (c.offset-o.result * 2 ^ a.scale) % 2 ^ 64 = c.scaled.ensures in
-    c.wrapping_add_u64.ensures.value
-    ∙ omega arith
-    ∙ ap (λ (o : ℕ). (a.base + o * 2 ^ a.scale) % 2 ^ 64) c.offset-o.ensures
+    omega arith ∙ ap (λ (o : ℕ). (a.base + o * 2 ^ a.scale) % 2 ^ 64) c.offset-o.ensures

@@ -1,8 +1,7 @@
 -- `quadword_access`: the class's numbers and the store's fields. No loop. Assumes nothing.
-use Rattle.std.proofs.Common.{◌≡◌, ℕ, [], arith}
+use Rattle.std.proofs.Common.{◌≡◌, ℕ, [], arith, None}
 use Rattle.encoding.specs.Encoding.{class_numbered, class_for}
 use Rattle.encoding.specs.Layouts.{number_in}
-use Rattle.encoding.specs.declared.Extension.TheVariants.{None}
 use Rattle.encoding.specs.declared.Number.{Number}
 use Rattle.encoding.specs.declared.Number.TheVariants.{Step, Size}
 use Rattle.encoding.specs.declared.Store.TheVariants.{Quadword}
@@ -50,8 +49,8 @@ returns c =
       step = step i;
       size = number (goal.at.returns c).Start Size c.number_for-size.result c.number_for-size.ensures i;
       count = pers vb (class_for (Quadword f)) (fields (goal.at.returns c).Start).eight c.number_for-quadword.result step i;
-      offsets = f.zn;
-      governing = f.pg;
-      stored = f.zt;
+      offsets = c.from.ensures i;
+      governing = c.from-2.ensures i;
+      stored = c.from-3.ensures i;
     } in
     e

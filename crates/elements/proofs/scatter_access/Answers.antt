@@ -52,8 +52,8 @@ returns c =
       step = step i;
       size = number (goal.at.returns c).Start Size c.number_for-size.result c.number_for-size.ensures i;
       count = pers vb (class_for (Scatter f)) (fields (goal.at.returns c).Start).eight c.number_for-step.result step i;
-      offsets = f.zm;
-      governing = f.pg;
-      stored = f.zt;
+      offsets = c.from.ensures i;
+      governing = c.from-2.ensures i;
+      stored = c.from-3.ensures i;
     } in
     e

@@ -27,7 +27,7 @@ pub returns : goal.returns
 returns c =
     let f = c.args.f in
     let registers = number (goal.at.returns c).Start Nreg c.number_for-nreg.result c.number_for-nreg.ensures in
-    let stride = c.stride_of-stride.ensures ∙ ap (λ (y : ℕ). cond (eqb y 2) 8 4) registers in
+    let stride = c.stride_of.ensures ∙ ap (λ (y : ℕ). cond (eqb y 2) 8 4) registers in
     let e : ◌≡◌ {A = StridedAccess} _ (strided_of (class_for (Strided f)) f c.args.«start» c.args.range) =
     λ i.
     record {
@@ -38,7 +38,7 @@ returns c =
       size = number (goal.at.returns c).Start Size c.number_for-size.result c.number_for-size.ensures i;
       per = c.args.range.per;
       nreg = registers i;
-      first = f.first;
+      first = c.from.ensures i;
       stride = stride i;
     } in
     e

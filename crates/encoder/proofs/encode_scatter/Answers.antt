@@ -1,47 +1,44 @@
 -- `encode_scatter`: the tests of its fields, and their sum. Assumes nothing.
+use Rattle.std.proofs.Common.{◌≡◌, Some, sym, refl, ◌∙◌, arith}
+use Rattle.encoding.specs.Encoding.{row_for, class_for}
+use Rattle.encoding.specs.Layouts.{listed}
 use Rattle.encoding.specs.declared.Store.TheVariants.{Scatter}
-use Rattle.encoding.specs.Classes.{classes, class_at}
-use Rattle.encoding.specs.declared.Feature.TheVariants.{SVE}
-use Rattle.encoding.proofs.Rows.{found-feature}
-use Rattle.encoding.proofs.Causes.{encode-out, encode-yes, encode-no}
-use Rattle.encoder.proofs.Fitting.{scatter-fit, scatter-word}
-use borrow.Author.Rules.{rules}
+use Rattle.encoding.proofs.Causes.{encode-yes, encode-no}
+use Rattle.encoder.proofs.Fitting.{not-found, row-listed, row-feature, row-layout, row-base, row-base-bounded, scatter-fit, scatter-word}
 use Rattle.encoder.proofs.encode_scatter.Goals as goal
+use Rattle.encoder.proofs.encode_scatter.Goals.{In_ok-row}
 
-pub returns-then-k-ge-CLASSES : goal.returns-then-k-ge-CLASSES
-unfolding classes
-returns-then-k-ge-CLASSES c = encode-out (Scatter c.args.f) c.row_of-k.result c.row_of-k.ensures c.if-k-ge-CLASSES.true
+found : (c : In_ok-row) → Some c.in_ok-row.row ≡ listed (row_for (Scatter c.args.f))
+found c = sym c.in_ok-row.was ∙ c.row_of.ensures
 
-pub layout_of-layout-requires : goal.layout_of-layout-requires
-unfolding classes
-layout_of-layout-requires c = search rules
+pub returns-in_err-row : goal.returns-in_err-row
+returns-in_err-row c = c.from_residual.ensures ∙ not-found (Scatter c.args.f) (sym c.in_err-row.was ∙ c.row_of.ensures)
 
-pub base_of-requires : goal.base_of-requires
-unfolding classes
-base_of-requires c = search rules
+pub overflow_add-result : goal.overflow_add-result
+overflow_add-result c =
+    let a = (goal.at.overflow_add-result c).In_ok-row in
+    omega (arith, row-base-bounded (Scatter c.args.f) a.in_ok-row.row (found a))
 
 pub returns-then-scatter_fits-extends : goal.returns-then-scatter_fits-extends
-unfolding classes
 returns-then-scatter_fits-extends c =
-    let r = c.row_of-k in
     let f = c.args.f in
-    let h = c.if-k-ge-CLASSES.false in
-    let x = found-feature f.class r.result SVE r.ensures h in
-    encode-yes (Scatter f) r.result r.ensures h _ _
-    (scatter-fit r.result h x f c.layout_of-layout.result c.layout_of-layout.ensures.is
+    let r = c.in_ok-row.row in
+    let e = found (goal.at.returns-then-scatter_fits-extends c).In_ok-row in
+    let h = row-listed (Scatter f) r e in
+    encode-yes (Scatter f) (row_for (Scatter f)) refl h _ _
+    (scatter-fit (row_for (Scatter f)) h (row-feature (Scatter f) r e) f r.layout (row-layout (Scatter f) r e)
     c.scatter_fits.result c.extends.result c.scatter_fits.ensures c.extends.ensures)
     c.if-scatter_fits-extends.true
-    (scatter-word (class_at r.result) f c.base_of.result c.xs_of.result c.scatter_sum.result
-    c.base_of.ensures.is c.xs_of.ensures.is c.scatter_sum.ensures.is)
+    (scatter-word (class_for (Scatter f)) f r.base c.xs_of.result c.scatter_sum.result
+    (row-base (Scatter f) r e) c.xs_of.ensures.is c.scatter_sum.ensures.is)
 
 pub returns-else-scatter_fits-extends : goal.returns-else-scatter_fits-extends
-unfolding classes
 returns-else-scatter_fits-extends c =
-    let r = c.row_of-k in
     let f = c.args.f in
-    let h = c.if-k-ge-CLASSES.false in
-    let x = found-feature f.class r.result SVE r.ensures h in
-    encode-no (Scatter f) r.result r.ensures h _
-    (scatter-fit r.result h x f c.layout_of-layout.result c.layout_of-layout.ensures.is
+    let r = c.in_ok-row.row in
+    let e = found (goal.at.returns-else-scatter_fits-extends c).In_ok-row in
+    let h = row-listed (Scatter f) r e in
+    encode-no (Scatter f) (row_for (Scatter f)) refl h _
+    (scatter-fit (row_for (Scatter f)) h (row-feature (Scatter f) r e) f r.layout (row-layout (Scatter f) r e)
     c.scatter_fits.result c.extends.result c.scatter_fits.ensures c.extends.ensures)
     c.if-scatter_fits-extends.false

@@ -8,9 +8,9 @@ use Rattle.encoding.proofs.extension_of.Goals as goal
 pub returns-then-xs-eq0 : goal.returns-then-xs-eq0
 returns-then-xs-eq0 c =
     let a = c.args in
-    uxtw a.xs c.if-xs-eq0.true ∙ sym (ap (λ (b : Bool). extension_of b a.xs) c.if-has.true)
+    uxtw a.xs c.if-xs-eq0.true ∙ sym (ap (λ (b : Bool). extension_of b a.xs) c.if-not-has.false)
 
 pub returns-else-xs-eq0 : goal.returns-else-xs-eq0
 returns-else-xs-eq0 c =
     let a = c.args in
-    sxtw a.xs c.if-xs-eq0.false ∙ sym (ap (λ (b : Bool). extension_of b a.xs) c.if-has.true)
+    sxtw a.xs c.if-xs-eq0.false ∙ sym (ap (λ (b : Bool). extension_of b a.xs) c.if-not-has.false)

@@ -1,19 +1,10 @@
--- `feature_of`: the feature in the class's row. Assumes nothing.
-use mathlib.Core.Path.{sym, ap, ◌∙◌}
-use Prim.Native.Nat.{ℕ}
-use native.Mathlib.Omega.{arith}
-use Rattle.encoding.specs.Classes.{classes, class_at}
+-- `feature_of`: of a class that isn't in the list it is that of `no_class`. Assumes nothing.
+use Rattle.std.proofs.Common.{sym, ◌∙◌, arith}
 use Rattle.encoding.specs.Encoding.{row_numbered}
-use Rattle.encoding.proofs.Rows.{unlisted}
+use Rattle.encoding.proofs.Rows.{unlisted, unknown-row}
 use Rattle.encoding.proofs.feature_of.Goals as goal
 
-pub returns-then-k-ge-CLASSES : goal.returns-then-k-ge-CLASSES
-unfolding classes
-returns-then-k-ge-CLASSES c = sym (unlisted (row_numbered c.args.class) (omega (arith, c.row_numbered-k.ensures)))
-
-pub feature_at-requires : goal.feature_at-requires
-unfolding classes
-feature_at-requires c = c.if-k-ge-CLASSES.false
-
-pub returns : goal.returns
-returns c = c.feature_at.ensures ∙ ap (λ (k : ℕ). (class_at k).feature) c.row_numbered-k.ensures
+pub returns-in-None : goal.returns-in-None
+returns-in-None c =
+    let f = unknown-row (row_numbered c.args.class) (sym c.in-None.is ∙ c.row_numbered.ensures) in
+    sym (unlisted (row_numbered c.args.class) (omega arith))

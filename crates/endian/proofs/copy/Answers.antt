@@ -1,5 +1,4 @@
 -- `copy`: eight bytes, sixteen, one, four or two by one move, any other number by `copy_any`. Assumes nothing.
-use borrow.Author.Rules.{rules}
 use Rattle.endian.proofs.Copying.{copied-once, copied-one}
 use Rattle.endian.proofs.copy.Goals as goal
 

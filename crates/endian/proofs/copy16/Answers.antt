@@ -3,7 +3,6 @@ use Prim.Native.Nat.{◌+◌}
 use native.Mathlib.Omega.{arith}
 use Rattle.endian.proofs.LittleEndian.{bytes-at}
 use Rattle.endian.proofs.Copying.{put-copied, copied_on}
-use borrow.Author.Rules.{rules}
 use Rattle.endian.proofs.copy16.Goals as goal
 
 pub returns : goal.returns

@@ -1,7 +1,6 @@
 -- `copy8`: eight bytes read as a number and put. Assumes nothing.
 use Rattle.endian.proofs.LittleEndian.{bytes-at}
 use Rattle.endian.proofs.Copying.{put-copied}
-use borrow.Author.Rules.{rules}
 use Rattle.endian.proofs.copy8.Goals as goal
 
 pub returns : goal.returns

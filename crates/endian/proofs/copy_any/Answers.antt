@@ -2,7 +2,6 @@
 use native.Mathlib.Omega.{arith}
 use Prim.Native.Nat.{◌-◌}
 use lib.ListN.{length}
-use borrow.Author.Rules.{rules}
 use Rattle.endian.proofs.Copying.{copied-ends, copied-one, copied_none}
 use Rattle.endian.proofs.copy_any.Goals as goal
 

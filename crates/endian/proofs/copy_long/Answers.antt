@@ -2,8 +2,7 @@
 use native.Mathlib.Omega.{arith}
 use Prim.Native.Nat.{◌-◌}
 use lib.ListN.{length}
-use borrow.Author.Rules.{rules}
-use Rattle.endian.proofs.Copying.{Copied, copied-first, copied_more, copied-last}
+use Rattle.endian.proofs.Copying.{copied-first, copied_more, copied-last}
 use Rattle.endian.proofs.copy_long.Goals as goal
 
 pub loop-i-init : goal.loop-i-init

@@ -1,9 +1,6 @@
 -- `copy_long`: sixteen bytes at a time, and the last sixteen. Invariant: the first i bytes are copied. Assumes nothing.
-use native.Mathlib.Omega.{arith}
 use Prim.Native.Nat.{◌-◌}
-use lib.ListN.{length}
-use borrow.Author.Rules.{rules}
-use Rattle.endian.proofs.Copying.{Copied, copied-first, copied_more, copied-last}
+use Rattle.endian.proofs.Copying.{Copied}
 use Rattle.endian.proofs.copy_long.Given as goal
 
 abbrev pub invariant-loop-i : goal.invariant-loop-i

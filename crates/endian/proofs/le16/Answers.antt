@@ -1,7 +1,6 @@
 -- `le16`: two bytes read are their number. Assumes nothing.
 use native.Mathlib.Omega.{arith}
 use Rattle.endian.proofs.LittleEndian.{le-2}
-use borrow.Author.Rules.{rules}
 use Rattle.endian.proofs.le16.Goals as goal
 
 pub returns : goal.returns

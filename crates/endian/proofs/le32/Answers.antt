@@ -1,7 +1,6 @@
 -- `le32`: four bytes read are their number. Assumes nothing.
 use native.Mathlib.Omega.{arith}
 use Rattle.endian.proofs.LittleEndian.{le-4}
-use borrow.Author.Rules.{rules}
 use Rattle.endian.proofs.le32.Goals as goal
 
 pub returns : goal.returns

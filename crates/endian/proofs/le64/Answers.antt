@@ -1,7 +1,6 @@
 -- `le64`: eight bytes read are their number. Assumes nothing.
 use native.Mathlib.Omega.{arith}
 use Rattle.endian.proofs.LittleEndian.{le-8}
-use borrow.Author.Rules.{rules}
 use Rattle.endian.proofs.le64.Goals as goal
 
 pub returns : goal.returns

@@ -2,7 +2,6 @@
 use native.Mathlib.Omega.{arith}
 use lib.ListN.{length-set}
 use Rattle.endian.proofs.Putting.{put_2}
-use borrow.Author.Rules.{rules}
 use Rattle.endian.proofs.put16.Goals as goal
 
 pub bounds-out-at-2 : goal.bounds-out-at-2

@@ -1,7 +1,5 @@
 -- `put32`: four bytes of a number, as twice two. Assumes nothing.
-use native.Mathlib.Omega.{arith}
 use Rattle.endian.proofs.Putting.{put_4}
-use borrow.Author.Rules.{rules}
 use Rattle.endian.proofs.put32.Goals as goal
 
 pub returns : goal.returns

@@ -1,7 +1,5 @@
 -- `put64`: eight bytes of a number, as twice four. Assumes nothing.
-use native.Mathlib.Omega.{arith}
 use Rattle.endian.proofs.Putting.{put-8}
-use borrow.Author.Rules.{rules}
 use Rattle.endian.proofs.put64.Goals as goal
 
 pub returns : goal.returns

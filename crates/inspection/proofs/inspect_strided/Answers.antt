@@ -71,21 +71,21 @@ overflow_mul-register c = omega (arith, its-register (goal.at.overflow_mul-regis
 pub overflow_add-register : goal.overflow_add-register
 overflow_add-register c = omega (arith, its-register (goal.at.overflow_add-register c).Else-count-e)
 
-pub strided_active-active-requires : goal.strided_active-active-requires
-strided_active-active-requires c = gap-some c.args.s c.args.vb c.requires
+pub is_active-active-requires : goal.is_active-active-requires
+is_active-active-requires c = gap-some c.args.s c.args.vb c.requires
 
-pub overflow_mul-result : goal.overflow_mul-result
-overflow_mul-result c = omega (arith, its-byte (goal.at.overflow_mul-result c).Else-count-e)
+pub overflow_mul-element : goal.overflow_mul-element
+overflow_mul-element c = omega (arith, its-byte (goal.at.overflow_mul-element c).Else-count-e)
 
-pub nonzero_rem-result : goal.nonzero_rem-result
-nonzero_rem-result c = omega (arith, bytes-some c.args.s c.args.vb c.requires)
+pub nonzero_rem-element : goal.nonzero_rem-element
+nonzero_rem-element c = omega (arith, bytes-some c.args.s c.args.vb c.requires)
 
-pub overflow_add-result : goal.overflow_add-result
-overflow_add-result c = omega (arith, its-byte (goal.at.overflow_add-result c).Else-count-e)
+pub overflow_add-element : goal.overflow_add-element
+overflow_add-element c = omega (arith, its-byte (goal.at.overflow_add-element c).Else-count-e)
 
 pub returns : goal.returns
 returns c =
     let a = c.args in
-    let r = c.strided_active-active in
-    let q = c.strided_address-address in
+    let r = c.is_active-active in
+    let q = c.address-address in
     strided-found a.s a.vb a.e r.result q.result c.if-count-e.false r.ensures q.ensures

@@ -34,34 +34,34 @@ register_of-offsets-requires c = offsets-in (goal.at.register_of-offsets-require
 pub register_of-governing-requires : goal.register_of-governing-requires
 register_of-governing-requires c = governing-in (goal.at.register_of-governing-requires c).Start
 
-pub vector_active-active-requires : goal.vector_active-active-requires
-vector_active-active-requires c =
+pub is_active-active-requires : goal.is_active-active-requires
+is_active-active-requires c =
     let g = c.args in
     let s = c.requires.vector_sound in
     let h = c.if-count-e.false in
-    let l = ap length c.register_of-governing.ensures ∙ register-long (g.vb / 8) g.v.governing g.p.now (governing-in (goal.at.vector_active-active-requires c).Start) in
+    let l = ap length c.register_of-governing.ensures ∙ register-long (g.vb / 8) g.v.governing g.p.now (governing-in (goal.at.is_active-active-requires c).Start) in
     record { step_in_bounds = omega (arith, l, bit_in g.v g.vb s g.e h); step_bound = below_end g.v g.vb s g.e h }
 
-pub vector_address-address-requires : goal.vector_address-address-requires
-vector_address-address-requires c =
+pub address-address-requires : goal.address-address-requires
+address-address-requires c =
     let g = c.args in
     let s = c.requires.vector_sound in
-    let l = ap length c.register_of-offsets.ensures ∙ register-long g.vb g.v.offsets g.z.now (offsets-in (goal.at.vector_address-address-requires c).Start) in
+    let l = ap length c.register_of-offsets.ensures ∙ register-long g.vb g.v.offsets g.z.now (offsets-in (goal.at.address-address-requires c).Start) in
     record { extension_in_bounds = omega (arith, l, offset-in g.v g.vb s g.e c.if-count-e.false); scale_bound = s.scale }
 
-pub overflow_mul-result : goal.overflow_mul-result
-overflow_mul-result c = omega (arith, index-in (goal.at.overflow_mul-result c).Else-count-e)
+pub overflow_mul-element : goal.overflow_mul-element
+overflow_mul-element c = omega (arith, index-in (goal.at.overflow_mul-element c).Else-count-e)
 
-pub overflow_mul-result-2 : goal.overflow_mul-result-2
-overflow_mul-result-2 c = omega (arith, index-in (goal.at.overflow_mul-result-2 c).Else-count-e)
+pub overflow_mul-element-2 : goal.overflow_mul-element-2
+overflow_mul-element-2 c = omega (arith, index-in (goal.at.overflow_mul-element-2 c).Else-count-e)
 
-pub overflow_add-result : goal.overflow_add-result
-overflow_add-result c = omega (arith, index-in (goal.at.overflow_add-result c).Else-count-e)
+pub overflow_add-element : goal.overflow_add-element
+overflow_add-element c = omega (arith, index-in (goal.at.overflow_add-element c).Else-count-e)
 
 pub returns : goal.returns
 returns c =
-    let s = c.vector_address-address in
-    let r = c.vector_active-active in
+    let s = c.address-address in
+    let r = c.is_active-active in
     let g = c.register_of-governing in
     let o = c.register_of-offsets in
     let a = c.args in

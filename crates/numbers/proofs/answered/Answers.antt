@@ -24,12 +24,12 @@ six-of (Fault e a) = refl
 six-of (Overlap e a) = refl
 six-of NoRoom = refl
 
-pub returns-in-Done : goal.returns-in-Done
-returns-in-Done c = record { value = sym (ap number c.in-Done.is); answer_after = sym (ap numbers c.in-Done.is) }
+pub returns-in-Ok : goal.returns-in-Ok
+returns-in-Ok c = record { value = sym (ap number c.in-Ok.is); answer_after = sym (ap numbers c.in-Ok.is) }
 
-pub returns-in-Refused : goal.returns-in-Refused
-returns-in-Refused c =
+pub returns-in-Err : goal.returns-in-Err
+returns-in-Err c =
     record {
-      value = c.refusal_number.ensures ∙ sym (ap number c.in-Refused.is);
-      answer_after = ap six c.detail_of-detail.ensures ∙ six-of c.in-Refused.refusal ∙ sym (ap numbers c.in-Refused.is);
+      value = c.refusal_number.ensures ∙ sym (ap number c.in-Err.is);
+      answer_after = ap six c.detail_of.ensures ∙ six-of c.in-Err.refusal ∙ sym (ap numbers c.in-Err.is);
     }

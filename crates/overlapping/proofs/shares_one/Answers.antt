@@ -1,21 +1,19 @@
--- `shares_one`: key by key, the nearest first. Assumes nothing.
-use native.Mathlib.Omega.{arith}
-use Rattle.overlapping.proofs.Passing.{looking-first, looking-next, looking-met, looking-done}
+-- `shares_one`: any of the keys. Assumes nothing.
+use mathlib.Core.Path.{◌≡◌}
+use mathlib.Core.Bool.{true}
+use mathlib.Core.Logic.{◌↔◌}
+use lib.ListN.{get_or}
+use Rattle.std.specs.Prelude.{SomeIndex}
+use Rattle.std.proofs.Common.{rules}
+use Rattle.stretches.specs.Stretches.{start_of, end_of}
+use Rattle.overlapping.specs.Overlaps.{meets}
+use Rattle.overlapping.proofs.Passing.{told-any}
 use Rattle.overlapping.proofs.shares_one.Goals as goal
 
-pub loop-s-init : goal.loop-s-init
-loop-s-init c = looking-first _ _ _
-
-pub bounds-keys-s : goal.bounds-keys-s
-bounds-keys-s c = let l = c.loop-s.invariant in omega (arith, l.most)
-
-pub returns-then-meet : goal.returns-then-meet
-returns-then-meet c =
-    looking-met _ _ _ _ _ (omega (arith, c.loop-s-test.true)) (omega arith) c.loop-s.invariant _ c.meet.ensures c.if-meet.true
-
-pub loop-s-preserved : goal.loop-s-preserved
-loop-s-preserved c =
-    looking-next _ _ _ _ _ (omega (arith, c.loop-s-test.true)) (omega arith) c.loop-s.invariant _ c.meet.ensures c.if-meet.false
-
 pub returns : goal.returns
-returns c = looking-done _ _ _ _ (omega arith) c.loop-s.invariant
+returns c =
+    let a = start_of c.args.k in
+    let b = end_of c.args.k in
+    let K = c.args.keys.now in
+    let t : c.any.result ≡ true ↔ SomeIndex K (λ i. meets a b (start_of (get_or K i 0)) (end_of (get_or K i 0)) ≡ true) = search rules in
+    told-any _ _ K _ t.0 t.1

@@ -1,10 +1,8 @@
--- `some_overlap`: each start against the end of the stretch before. Assumes nothing.
-use Prim.Native.Nat.{◌-◌}
-use Rattle.overlapping.proofs.Passing.{Spacing}
+-- `some_overlap`: those that are left and the end so far tell what all do. Assumes nothing.
+use mathlib.Core.Path.{◌≡◌}
+use lib.ListN.{drop}
+use Rattle.overlapping.specs.Overlaps.{parted}
 use Rattle.overlapping.proofs.some_overlap.Given as goal
 
-abbrev pub invariant-loop-t : goal.invariant-loop-t
-invariant-loop-t l = Spacing l.stretches l.m l.end l.t
-
-abbrev pub decreases-loop-t : goal.decreases-loop-t
-decreases-loop-t l = l.m - l.t
+abbrev pub invariant-loop-k : goal.invariant-loop-k
+invariant-loop-k l = parted l.end (drop l.k-index l.stretches) ≡ parted 0 l.stretches

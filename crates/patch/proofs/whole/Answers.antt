@@ -1,20 +1,21 @@
 -- `whole`: a trailer with nothing behind it, with something, or none. Assumes nothing.
+use mathlib.Core.Path.{sym, ◌∙◌}
 use native.Mathlib.Omega.{arith}
-use borrow.Author.Tests.{not-true, not-false}
+use Rattle.std.proofs.lemmas.Result.{err_from_is_err_and}
 use Rattle.reading.proofs.Ends.{stop-fits}
 use Rattle.patch.proofs.Judgements.{whole-broken, whole-ends, whole-followed}
 use Rattle.patch.proofs.whole.Goals as goal
 
-pub returns-then-not-w : goal.returns-then-not-w
-returns-then-not-w c = whole-broken _ _ c.walk-w.ensures (not-true _ c.if-not-w.true)
+pub returns-in_err-c : goal.returns-in_err-c
+returns-in_err-c c =
+    let p = err_from_is_err_and c.from_residual.result c.from_residual.ensures.1 in
+    rw (p.1, p.2) (whole-broken _ _ (sym c.in_err-c.was ∙ c.walk.ensures))
 
-pub overflow_add-w : goal.overflow_add-w
-overflow_add-w c = omega (arith, stop-fits _ _ _ c.walk-w.ensures (not-false _ c.if-not-w.false))
+pub overflow_add-c : goal.overflow_add-c
+overflow_add-c c = omega (arith, stop-fits _ _ _ (sym c.in_ok-c.was ∙ c.walk.ensures))
 
-pub returns-then-w-patch : goal.returns-then-w-patch
-returns-then-w-patch c =
-    whole-ends _ _ c.walk-w.ensures (not-false _ c.if-not-w.false) (omega (arith, c.if-w-patch.true))
+pub returns-then-c-patch : goal.returns-then-c-patch
+returns-then-c-patch c = whole-ends _ _ (sym c.in_ok-c.was ∙ c.walk.ensures) (omega arith)
 
-pub returns : goal.returns
-returns c =
-    whole-followed _ _ c.walk-w.ensures (not-false _ c.if-not-w.false) (λ e. omega (arith, c.if-w-patch.false))
+pub returns-else-c-patch : goal.returns-else-c-patch
+returns-else-c-patch c = whole-followed _ _ (sym c.in_ok-c.was ∙ c.walk.ensures) (λ e. omega arith)

@@ -1,11 +1,12 @@
 -- `step_on`: what isn't bad is the trailer, by its mark, or a run that may come next. Assumes nothing.
-use mathlib.Core.Path.{◌∙◌, ap₂, sym}
+use mathlib.Core.Path.{◌∙◌, ap, ap₂, sym, subst}
 use native.Mathlib.Omega.{arith}
 use Prim.Native.Nat.{ℕ, ◌+◌}
-use Rattle.writes.proofs.Sizes.{runs_fit, bytes_fit}
-use Rattle.reading.specs.Reader.{past}
+use Rattle.std.specs.Prelude.{Some}
+use Rattle.reading.specs.Reader.{past, Passes}
+use Rattle.reading.specs.declared.Cursor.{Cursor}
 use Rattle.reading.specs.declared.Step.TheVariants.{Next}
-use Rattle.reading.proofs.Standing.{is-trailer, is-run, mark-inside}
+use Rattle.reading.proofs.Standing.{is-trailer, is-run, mark-inside, passes}
 use Rattle.reading.proofs.step_on.Goals as goal
 
 pub overflow_add-mark : goal.overflow_add-mark
@@ -37,37 +38,20 @@ overflow_add-result-2 c =
     let k = (is-run _ _ c.requires c.if-mark-eq69.false).2 in
     omega (arith, k.head, c.le16-len.ensures.0 ∙ sym k.head.count)
 
-pub overflow_add-result-3 : goal.overflow_add-result-3
-overflow_add-result-3 c =
-    let k = (is-run _ _ c.requires c.if-mark-eq69.false).2 in
-    omega (arith, k.head, c.le16-len.ensures.0 ∙ sym k.head.count)
-
-pub overflow_add-result-4 : goal.overflow_add-result-4
-overflow_add-result-4 c =
-    let k = (is-run _ _ c.requires c.if-mark-eq69.false).2 in
-    omega (arith, k.head, c.le16-len.ensures.0 ∙ sym k.head.count)
-
-pub overflow_add-result-5 : goal.overflow_add-result-5
-overflow_add-result-5 c = omega (arith, (is-run _ _ c.requires c.if-mark-eq69.false).2.admitted, runs_fit)
-
-pub overflow_add-result-6 : goal.overflow_add-result-6
-overflow_add-result-6 c =
-    let k = (is-run _ _ c.requires c.if-mark-eq69.false).2 in
-    omega (arith, k.admitted, c.le16-len.ensures.0 ∙ sym k.head.count, bytes_fit)
-
-pub overflow_sub-result : goal.overflow_sub-result
-overflow_sub-result c =
-    let k = (is-run _ _ c.requires c.if-mark-eq69.false).2 in
-    omega (arith, k.admitted, c.le16-len.ensures.0 ∙ sym k.head.count)
-
-pub overflow_add-result-7 : goal.overflow_add-result-7
-overflow_add-result-7 c =
-    let k = (is-run _ _ c.requires c.if-mark-eq69.false).2 in
-    omega (arith, k.admitted, c.le16-len.ensures.0 ∙ sym k.head.count, c.le64-start.ensures ∙ sym k.head.start)
+-- a run that may come next passes no type's top
+pub past-requires : goal.past-requires
+past-requires c =
+    let r = is-run _ _ c.requires c.if-mark-eq69.false in
+    let k = r.2 in
+    subst (λ (n : ℕ). Passes c.args.c c.le64-start.result n) (k.head.count ∙ sym c.le16-len.ensures.0)
+    (subst (λ (st : ℕ). Passes c.args.c st r.1) (k.head.start ∙ sym c.le64-start.ensures) (passes _ _ _ _ k.head k.admitted (omega arith)))
 
 pub returns : goal.returns
-unfolding past
 returns c =
     let a = c.args in
     let k = (is-run _ _ c.requires c.if-mark-eq69.false).2 in
-    ap₂ (λ (st n : ℕ). Next st (a.c.at + 12) n (past a.c st n)) (c.le64-start.ensures ∙ sym k.head.start) (c.le16-len.ensures.0 ∙ sym k.head.count) ∙ k.step
+    let st = c.le64-start.ensures ∙ sym k.head.start in
+    let n = c.le16-len.ensures.0 ∙ sym k.head.count in
+    ap (λ (z : Cursor). Some (Next c.le64-start.result (a.c.at + 12) c.le16-len.result z)) c.past.ensures
+    ∙ ap₂ (λ (x y : ℕ). Some (Next x (a.c.at + 12) y (past a.c x y))) st n
+    ∙ k.step

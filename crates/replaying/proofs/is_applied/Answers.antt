@@ -1,26 +1,22 @@
--- Of `is_applied`, which has no loop: done by its number. Assumes nothing.
-use mathlib.Core.Path.{refl, ap}
+-- `is_applied`, which has no loop: done by its number. Assumes nothing.
+use mathlib.Core.Bool.{Bool, true}
+use mathlib.Core.Logic.{◌↔◌}
+use mathlib.Core.Path.{◌≡◌, refl}
 use native.Mathlib.Omega.{arith}
+use Rattle.std.specs.Prelude.{Ok, Err, is_ok}
+use Rattle.endian.proofs.Order.{absurdly}
 use Rattle.patch.specs.Answers.{applied_number}
-use Rattle.replaying.proofs.Calls.{if-refused}
+use Rattle.patch.specs.Applying.{Applied}
+use Rattle.patch.specs.declared.ApplyError.TheVariants.{Window, BadPatch, Outside}
 use Rattle.replaying.proofs.is_applied.Goals as goal
 
-pub returns-in-Done : goal.returns-in-Done
-returns-in-Done c =
-    let a = c.apply in
-    record { answer = a.result; outcome = a.ensures; done = (λ t. ap applied_number c.in-Done.is, λ t. refl) }
+numbered : (a : Applied) (r : Bool) → r ≡ is_ok a → (r ≡ true) ↔ (applied_number a ≡ 0)
+numbered (Ok z) r e = ((λ t. refl), (λ t. e))
+numbered (Err Window) r e = ((λ t. absurdly cc), (λ t. absurd (omega (arith, t))))
+numbered (Err BadPatch) r e = ((λ t. absurdly cc), (λ t. absurd (omega (arith, t))))
+numbered (Err (Outside k a)) r e = ((λ t. absurdly cc), (λ t. absurd (omega (arith, t))))
 
-pub returns-in-Window : goal.returns-in-Window
-returns-in-Window c =
+pub returns : goal.returns
+returns c =
     let a = c.apply in
-    if-refused a.result a.ensures (λ t. omega (arith, t, ap applied_number c.in-Window.is))
-
-pub returns-in-BadPatch : goal.returns-in-BadPatch
-returns-in-BadPatch c =
-    let a = c.apply in
-    if-refused a.result a.ensures (λ t. omega (arith, t, ap applied_number c.in-BadPatch.is))
-
-pub returns-in-Outside : goal.returns-in-Outside
-returns-in-Outside c =
-    let a = c.apply in
-    if-refused a.result a.ensures (λ t. omega (arith, t, ap applied_number c.in-Outside.is))
+    record { answer = a.result; outcome = a.ensures; done = numbered a.result _ c.is_ok.ensures.value }

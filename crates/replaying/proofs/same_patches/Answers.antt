@@ -1,78 +1,92 @@
 -- Demand 3's equality sentence, from the contract of `store`: the function is `same_patches`, and it has no loop. Assumes nothing.
-use mathlib.Core.Path.{sym, ap, ◌∙◌}
-use mathlib.Core.Logic.{inl, inr}
+use mathlib.Core.Path.{◌≡◌, refl, sym, ap}
+use mathlib.Core.Bool.{Bool, true, false}
+use mathlib.Core.List.{List}
+use mathlib.Core.Logic.{◌↔◌}
 use Prim.Native.Nat.{ℕ}
-use native.Mathlib.Nat.{sub-zero}
 use native.Mathlib.Omega.{arith}
 use lib.ListN.{take}
 use borrow.Author.Rules.{rules}
+use Rattle.std.proofs.lemmas.List.{length-take-le}
+use Rattle.std.specs.Bool.{MatchBool}
+use Rattle.std.specs.Prelude.{◌≢◌}
+use Rattle.std.specs.Cmp.Lexicographic.{told_text}
 use Rattle.endian.proofs.LittleEndian.{bytes-at}
-use Rattle.elements.specs.Machine.{Machine, machine}
-use Rattle.replaying.proofs.Calls.{part_in, compared, not-compared}
+use Rattle.endian.proofs.Order.{absurdly}
+use Rattle.verdicts.specs.Verdicts.{number}
+use Rattle.replaying.specs.Calls.{machine_of, length_of}
+use Rattle.replaying.proofs.Calls.{in_buffer, not-done, compared, not-compared}
 use Rattle.replaying.proofs.same_patches.Goals as goal
-use Rattle.replaying.proofs.same_patches.Goals.{Start}
 
-abbrev m : Start → Machine
-m k = let g = k.args in machine g.vb g.x.now g.sp g.z.now g.p.now
-
-abbrev m₁ : Start → Machine
-m₁ k = let g = k.args in machine g.vb1 g.x1.now g.sp1 g.z1.now g.p1.now
-
-pub returns-then-k-eq0 : goal.returns-then-k-eq0
-returns-then-k-eq0 c =
+pub slice_bounds-eq-end : goal.slice_bounds-eq-end
+slice_bounds-eq-end c =
     let g = c.args in
-    not-compared g.base g.flags (m (goal.at.returns-then-k-eq0 c).Start) g.memory.now g.word g.flags1 (m₁ (goal.at.returns-then-k-eq0 c).Start) g.memory1.now g.word1
-    g.patch.now g.patch1.now c.store-verdict.result c.store-verdict1.result _ _ c.store-verdict.new.patch c.store-verdict1.new.patch
-    c.store-verdict.ensures c.store-verdict1.ensures
-    (inl (sym c.length_of-k.ensures ∙ c.if-k-eq0.true))
-
-pub returns-then-k1-eq0 : goal.returns-then-k1-eq0
-returns-then-k1-eq0 c =
-    let g = c.args in
-    not-compared g.base g.flags (m (goal.at.returns-then-k1-eq0 c).Start) g.memory.now g.word g.flags1 (m₁ (goal.at.returns-then-k1-eq0 c).Start) g.memory1.now g.word1
-    g.patch.now g.patch1.now c.store-verdict.result c.store-verdict1.result _ _ c.store-verdict.new.patch c.store-verdict1.new.patch
-    c.store-verdict.ensures c.store-verdict1.ensures
-    (inr (sym c.length_of-k1.ensures ∙ c.if-k1-eq0.true))
-
-pub slice_bounds-equal-end : goal.slice_bounds-equal-end
-slice_bounds-equal-end c =
-    let g = c.args in
-    let q = c.length_of-k.ensures in
+    let q = c.in-Ok-Ok.is-0 in
     omega (
       arith,
-      q,
-      part_in g.flags (m (goal.at.slice_bounds-equal-end c).Start) g.base g.memory.now g.word g.patch.now c.store-verdict.result _ c.store-verdict.new.patch
-          c.store-verdict.ensures
-          (λ e. c.if-k-eq0.false (q ∙ e)),
+      ap length_of q,
+      in_buffer g.call.flags (machine_of g.call) g.base g.memory.now g.call.word g.patch.now
+          c.store-verdict.result _ c.store-verdict.new.patch c.store-verdict.ensures (ap number q),
     )
 
-pub slice_bounds-equal-end-2 : goal.slice_bounds-equal-end-2
-slice_bounds-equal-end-2 c =
+pub slice_bounds-eq-end-in-Ok-Ok-2 : goal.slice_bounds-eq-end-in-Ok-Ok-2
+slice_bounds-eq-end-in-Ok-Ok-2 c =
     let g = c.args in
-    let q = c.length_of-k1.ensures in
+    let q = c.in-Ok-Ok.is-1 in
     omega (
       arith,
-      q,
-      part_in g.flags1 (m₁ (goal.at.slice_bounds-equal-end-2 c).Start) g.base g.memory1.now g.word1 g.patch1.now c.store-verdict1.result _ c.store-verdict1.new.patch
-          c.store-verdict1.ensures
-          (λ e. c.if-k1-eq0.false (q ∙ e)),
+      ap length_of q,
+      in_buffer g.call1.flags (machine_of g.call1) g.base g.memory1.now g.call1.word g.patch1.now
+          c.store-verdict1.result _ c.store-verdict1.new.patch c.store-verdict1.ensures (ap number q),
     )
 
-pub returns : goal.returns
-returns c =
+pub slice_bounds-eq-end-in-Ok-Ok : goal.slice_bounds-eq-end-in-Ok-Ok
+slice_bounds-eq-end-in-Ok-Ok c = sym (length-take-le _ _ (slice_bounds-eq-end c))
+
+pub slice_bounds-eq-end-in-Ok-Ok-3 : goal.slice_bounds-eq-end-in-Ok-Ok-3
+slice_bounds-eq-end-in-Ok-Ok-3 c = sym (length-take-le _ _ (slice_bounds-eq-end-in-Ok-Ok-2 c))
+
+told : {s t : List ℕ} (r : Bool) → MatchBool r (s ≡ t) (s ≢ t) → (r ≡ true) ↔ (s ≡ t)
+told true h = (λ _. h, λ _. refl)
+told false h = (λ q. absurdly cc, λ e. absurd (h e))
+
+pub returns-in-Ok-Ok : goal.returns-in-Ok-Ok
+returns-in-Ok-Ok c =
     let g = c.args in
-    let l = c.length_of-k in
-    let l₁ = c.length_of-k1 in
+    let q = c.in-Ok-Ok.is-0 in
+    let q₁ = c.in-Ok-Ok.is-1 in
     -- what the Z buffers and the two windows hold are bytes
-    let bz = bytes-at g.z.now (λ i. search rules) in
-    let bz₁ = bytes-at g.z1.now (λ i. search rules) in
     let bm = bytes-at g.memory.now (λ i. search rules) in
     let bm₁ = bytes-at g.memory1.now (λ i. search rules) in
-    compared g.base g.flags (m (goal.at.returns c).Start) g.memory.now g.word g.flags1 (m₁ (goal.at.returns c).Start) g.memory1.now g.word1
+    compared g.base g.call.flags (machine_of g.call) g.memory.now g.call.word
+    g.call1.flags (machine_of g.call1) g.memory1.now g.call1.word
     g.patch.now g.patch1.now c.store-verdict.result c.store-verdict1.result _ _ c.store-verdict.new.patch c.store-verdict1.new.patch
     c.store-verdict.ensures c.store-verdict1.ensures
-    bz bz₁ bm bm₁
-    (λ e. c.if-k-eq0.false (l.ensures ∙ e)) (λ e. c.if-k1-eq0.false (l₁.ensures ∙ e)) _ _
-    (ap (λ (j : ℕ). take j c.store-verdict.new.patch) (sub-zero l.result ∙ l.ensures))
-    (ap (λ (j : ℕ). take j c.store-verdict1.new.patch) (sub-zero l₁.result ∙ l₁.ensures))
-    c.equal.result c.equal.ensures
+    (bytes-at g.call.machine.z.now g.call.machine.bytes) (bytes-at g.call1.machine.z.now g.call1.machine.bytes) bm bm₁ (ap number q) (ap number q₁) _ _
+    (ap (λ (j : ℕ). take j c.store-verdict.new.patch) (sym (ap length_of q)))
+    (ap (λ (j : ℕ). take j c.store-verdict1.new.patch) (sym (ap length_of q₁)))
+    c.eq.result (told c.eq.result (told_text _ _ c.eq.result c.eq.ensures))
+
+pub returns-in_default : goal.returns-in_default
+returns-in_default c =
+    let g = c.args in
+    not-compared g.base g.call.flags (machine_of g.call) g.memory.now g.call.word
+    g.call1.flags (machine_of g.call1) g.memory1.now g.call1.word
+    g.patch.now g.patch1.now c.store-verdict.result c.store-verdict1.result _ _ c.store-verdict.new.patch c.store-verdict1.new.patch
+    c.store-verdict.ensures c.store-verdict1.ensures
+    (λ _.
+    not-done g.call1.flags (machine_of g.call1) g.base g.memory1.now g.call1.word g.patch1.now
+    c.store-verdict1.result _ _ c.store-verdict1.ensures _
+    c.in_default.is-1)
+
+pub returns-in_default-2 : goal.returns-in_default-2
+returns-in_default-2 c =
+    let g = c.args in
+    not-compared g.base g.call.flags (machine_of g.call) g.memory.now g.call.word
+    g.call1.flags (machine_of g.call1) g.memory1.now g.call1.word
+    g.patch.now g.patch1.now c.store-verdict.result c.store-verdict1.result _ _ c.store-verdict.new.patch c.store-verdict1.new.patch
+    c.store-verdict.ensures c.store-verdict1.ensures
+    (λ e _.
+    not-done g.call.flags (machine_of g.call) g.base g.memory.now g.call.word g.patch.now
+    c.store-verdict.result _ _ c.store-verdict.ensures _
+    c.in_default.is-0 e)

@@ -1,10 +1,10 @@
 -- `starshackle_compare`: by what comparing answers. Assumes nothing.
-use mathlib.Core.Path.{◌≡◌, sym, ap}
+use mathlib.Core.Path.{◌≡◌, sym, ap, ◌∙◌}
 use mathlib.Core.List.{List}
 use Prim.Native.Nat.{ℕ}
+use Rattle.std.specs.Prelude.{Err}
 use Rattle.comparing.specs.Answers.{compared_number, compared_numbers}
-use Rattle.comparing.specs.Comparing.{ComparedTo}
-use Rattle.comparing.specs.declared.Compared.{Compared}
+use Rattle.comparing.specs.Comparing.{Compared, ComparedTo}
 use Rattle.starshackle.specs.Interface.{Answers}
 use Rattle.starshackle.proofs.starshackle_compare.Goals as goal
 
@@ -14,22 +14,25 @@ answered : (s t l l' : List ℕ) (r a : Compared) → ComparedTo s t l r l' → 
 answered s t l l' r a h e =
     record { answer = r; holds = h; its_number = sym (ap compared_number e); its_numbers = sym (ap compared_numbers e) }
 
-pub returns-in-Done : goal.returns-in-Done
-returns-in-Done c =
+pub returns-in-Ok : goal.returns-in-Ok
+returns-in-Ok c =
     let r = c.compare in
-    answered _ _ _ _ r.result _ r.ensures c.in-Done.is
+    answered _ _ _ _ r.result _ r.ensures c.in-Ok.is
 
-pub returns-in-NoRoom : goal.returns-in-NoRoom
-returns-in-NoRoom c =
+pub returns-in-Err-NoRoom : goal.returns-in-Err-NoRoom
+returns-in-Err-NoRoom c =
     let r = c.compare in
-    answered _ _ _ _ r.result _ r.ensures c.in-NoRoom.is
+    let k = c.in-Err-NoRoom in
+    answered _ _ _ _ r.result _ r.ensures (k.is ∙ ap Err k.field-0-is)
 
-pub returns-in-FirstBad : goal.returns-in-FirstBad
-returns-in-FirstBad c =
+pub returns-in-Err-FirstBad : goal.returns-in-Err-FirstBad
+returns-in-Err-FirstBad c =
     let r = c.compare in
-    answered _ _ _ _ r.result _ r.ensures c.in-FirstBad.is
+    let k = c.in-Err-FirstBad in
+    answered _ _ _ _ r.result _ r.ensures (k.is ∙ ap Err k.field-0-is)
 
-pub returns-in-SecondBad : goal.returns-in-SecondBad
-returns-in-SecondBad c =
+pub returns-in-Err-SecondBad : goal.returns-in-Err-SecondBad
+returns-in-Err-SecondBad c =
     let r = c.compare in
-    answered _ _ _ _ r.result _ r.ensures c.in-SecondBad.is
+    let k = c.in-Err-SecondBad in
+    answered _ _ _ _ r.result _ r.ensures (k.is ∙ ap Err k.field-0-is)

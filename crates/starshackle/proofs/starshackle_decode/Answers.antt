@@ -3,10 +3,10 @@ use mathlib.Core.Path.{sym, ap, ◌∙◌}
 use Rattle.encoding.specs.Answers.{decoded_number, decoded_numbers}
 use Rattle.starshackle.proofs.starshackle_decode.Goals as goal
 
-pub returns-in-Known : goal.returns-in-Known
-returns-in-Known c =
+pub returns-in-Some : goal.returns-in-Some
+returns-in-Some c =
     let d = c.decode in
-    let e = sym c.in-Known.is in
+    let e = sym c.in-Some.is in
     record {
       answer = d.result;
       holds = d.ensures;
@@ -14,8 +14,8 @@ returns-in-Known c =
       its_numbers = c.numbers_of.ensures ∙ ap decoded_numbers e;
     }
 
-pub returns-in-Undefined : goal.returns-in-Undefined
-returns-in-Undefined c =
+pub returns-in-None : goal.returns-in-None
+returns-in-None c =
     let d = c.decode in
-    let e = sym c.in-Undefined.is in
+    let e = sym c.in-None.is in
     record { answer = d.result; holds = d.ensures; its_number = ap decoded_number e; its_numbers = ap decoded_numbers e }

@@ -1,12 +1,15 @@
 -- `store`: by what checks 1 to 6 answered. Assumes nothing.
-use mathlib.Core.Path.{◌≡◌}
+use Rattle.std.specs.Prelude.{Ok}
+use Rattle.std.proofs.lemmas.Result.{err_from_is_err_and}
+use mathlib.Core.Path.{◌≡◌, ap, ◌∙◌}
 use lib.ListN.{length}
-use Rattle.elements.specs.Machine.{Machine, machine}
+use Rattle.elements.specs.Machine.{Machine, lent}
 use Rattle.elements.specs.Accesses.{VectorSound, StridedSound, strided_elements}
 use Rattle.elements.specs.declared.VectorAccess.{VectorAccess}
 use Rattle.elements.specs.declared.StridedAccess.{StridedAccess}
 use Rattle.checks.specs.Checking.{vectors_in, Passed}
-use Rattle.checks.specs.declared.Checked.TheVariants as Ch
+use Rattle.checks.specs.declared.Access.{Access}
+use Rattle.checks.specs.declared.Access.TheVariants as A
 use Rattle.checks.proofs.Checking.{refused-told, vector-told, strided-told}
 use Rattle.accesses.proofs.Apart.{strided-no-overlap}
 use Rattle.outcomes.proofs.Concluding.{stored_refused, stored-passed, under-clear}
@@ -14,50 +17,52 @@ use Rattle.storing.proofs.store.Goals as goal
 use Rattle.storing.proofs.store.Goals.{After-check}
 
 abbrev m : (k : After-check) → Machine
-m k = machine k.args.vb k.args.x.now k.args.sp k.args.z.now k.args.p.now
+m k = lent k.args.machine
 
-vector : (k : After-check) → (v : VectorAccess) → k.check.result ≡ Ch.Vector v
-    → VectorSound v k.args.vb
+vector : (k : After-check) → (v : VectorAccess) → k.check.result ≡ Ok (A.Vector v)
+    → VectorSound v k.args.machine.vb
     × Passed k.args.flags (m k) k.args.base (length k.args.memory.now) k.args.word
-    (vectors_in v k.args.vb k.args.z.now k.args.p.now) v.size
+    (vectors_in v k.args.machine.vb k.args.machine.z.now k.args.machine.p.now) v.size
 vector k v q =
     vector-told k.args.flags (m k) k.args.base (length k.args.memory.now) k.args.word k.check.result v
     k.check.ensures q
 
-strided : (k : After-check) → (s : StridedAccess) → k.check.result ≡ Ch.Strided s
-    → StridedSound s k.args.vb
+strided : (k : After-check) → (s : StridedAccess) → k.check.result ≡ Ok (A.Strided s)
+    → StridedSound s k.args.machine.vb
     × Passed k.args.flags (m k) k.args.base (length k.args.memory.now) k.args.word
-    (strided_elements s k.args.vb k.args.z.now) s.size
+    (strided_elements s k.args.machine.vb k.args.machine.z.now) s.size
 strided k s q =
     strided-told k.args.flags (m k) k.args.base (length k.args.memory.now) k.args.word k.check.result s
     k.check.ensures q
 
 pub store_vector-requires : goal.store_vector-requires
 store_vector-requires c =
-    let t = vector (goal.at.store_vector-requires c).After-check _ c.in-Vector.is in
+    let t = vector (goal.at.store_vector-requires c).After-check _ (c.in_ok-v.was ∙ ap (λ (a : Access). Ok a) c.in-Vector.is) in
     record { vector_sound = t.0; sound = t.1.registers; memory_value = t.1.window }
 
 pub store_strided-requires : goal.store_strided-requires
 store_strided-requires c =
-    let t = strided (goal.at.store_strided-requires c).After-check _ c.in-Strided.is in
+    let t = strided (goal.at.store_strided-requires c).After-check _ (c.in_ok-v.was ∙ ap (λ (a : Access). Ok a) c.in-Strided.is) in
     record { strided_sound = t.0; z_len = t.1.registers.long_z; memory_value = t.1.window }
 
-pub returns-in-Refused : goal.returns-in-Refused
-returns-in-Refused c =
+pub returns-in_err-v : goal.returns-in_err-v
+returns-in_err-v c =
     let g = c.args in
-    stored_refused g.flags (m (goal.at.returns-in-Refused c).After-check) g.base g.memory.now g.word g.patch.now _
-    (refused-told g.flags (m (goal.at.returns-in-Refused c).After-check) g.base (length g.memory.now) g.word c.check.result _ c.check.ensures
-    c.in-Refused.is)
+    let p = err_from_is_err_and c.from_residual.result c.from_residual.ensures.1 in
+    rw (p.1, p.2)
+    (stored_refused g.flags (m (goal.at.returns-in_err-v c).After-check) g.base g.memory.now g.word g.patch.now _
+    (refused-told g.flags (m (goal.at.returns-in_err-v c).After-check) g.base (length g.memory.now) g.word c.check.result _ c.check.ensures
+    c.in_err-v.was))
 
 pub returns-in-Vector : goal.returns-in-Vector
 returns-in-Vector c =
     let g = c.args in
-    stored-passed g.flags (m (goal.at.returns-in-Vector c).After-check) g.base g.memory.now g.word g.patch.now _ _ _ _ _ (vector (goal.at.returns-in-Vector c).After-check _ c.in-Vector.is).1
+    stored-passed g.flags (m (goal.at.returns-in-Vector c).After-check) g.base g.memory.now g.word g.patch.now _ _ _ _ _ (vector (goal.at.returns-in-Vector c).After-check _ (c.in_ok-v.was ∙ ap (λ (a : Access). Ok a) c.in-Vector.is)).1
     c.store_vector.ensures
 
 pub returns-in-Strided : goal.returns-in-Strided
 returns-in-Strided c =
     let g = c.args in
-    stored-passed g.flags (m (goal.at.returns-in-Strided c).After-check) g.base g.memory.now g.word g.patch.now _ _ _ _ _ (strided (goal.at.returns-in-Strided c).After-check _ c.in-Strided.is).1
+    stored-passed g.flags (m (goal.at.returns-in-Strided c).After-check) g.base g.memory.now g.word g.patch.now _ _ _ _ _ (strided (goal.at.returns-in-Strided c).After-check _ (c.in_ok-v.was ∙ ap (λ (a : Access). Ok a) c.in-Strided.is)).1
     (under-clear g.flags.strict c.store_strided.ensures
-    (strided-no-overlap _ g.vb (strided (goal.at.returns-in-Strided c).After-check _ c.in-Strided.is).0 g.z.now))
+    (strided-no-overlap _ g.machine.vb (strided (goal.at.returns-in-Strided c).After-check _ (c.in_ok-v.was ∙ ap (λ (a : Access). Ok a) c.in-Strided.is)).0 g.machine.z.now))

@@ -1,23 +1,20 @@
--- `grown`: each stretch that meets or touches the run is taken in. The invariant is `Growing`: the intervals of the stretches from t
--- on are those that the run so far and the stretches from `next` on make. Assumes nothing.
+-- `grown`: each stretch that meets or touches the run is taken in. Assumes nothing.
 use native.Mathlib.Omega.{arith}
 use Rattle.stretches.proofs.Growing.{growing-first, growing-more, growing-apart, growing-done}
 use Rattle.stretches.proofs.grown.Goals as goal
+use Rattle.stretches.proofs.grown.Goals.{in-Some+then-end-start_of, in_default}
 
-pub loop-next-init : goal.loop-next-init
-loop-next-init c = growing-first _ _ _ c.requires.1 _ _ c.start_of-start.ensures.0 c.end_of-end.ensures
+pub loop-k-init : goal.loop-k-init
+loop-k-init c = growing-first _ _ _ _ c.start_of-start.ensures.0 c.end_of-end.ensures
 
-pub returns-then-end-start_of : goal.returns-then-end-start_of
-returns-then-end-start_of c =
-    growing-apart _ _ _ _ _ _ c.loop-next.invariant (omega arith) _ c.start_of.ensures.0
-    (omega arith)
-
-pub loop-next-preserved : goal.loop-next-preserved
-loop-next-preserved c =
-    growing-more _ _ _ _ _ _ c.loop-next.invariant (omega arith) _ _ _ c.start_of.ensures.0
-    c.end_of.ensures
-    (omega arith)
-    c.higher-end.ensures
+pub loop-k-preserved : goal.loop-k-preserved
+loop-k-preserved c =
+    growing-more c.loop-k.invariant c.in-Some.ensures.cases.0 _ (omega (arith, c.start_of.ensures)) (omega (arith, c.end_of.ensures, c.max-end.ensures))
+    (omega (arith, c.end_of.ensures))
 
 pub returns : goal.returns
-returns c = growing-done _ _ _ _ _ _ c.loop-next.invariant (omega arith)
+returns c =
+    elim c.match-split_first.branch [
+      | in-Some+then-end-start_of w ↦ growing-apart c.loop-k.invariant w.in-Some.ensures.cases.0 (omega (arith, w.start_of.ensures))
+      | in_default w ↦ growing-done c.loop-k.invariant w.in_default.ensures.cases
+    ]

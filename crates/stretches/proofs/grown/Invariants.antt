@@ -1,11 +1,12 @@
--- `grown`: each stretch that meets or touches the run is taken in. The invariant is `Growing`: the intervals of the stretches from t
--- on are those that the run so far and the stretches from `next` on make. Assumes nothing.
-use Prim.Native.Nat.{◌-◌}
+-- `grown`: each stretch that meets or touches the run is taken in. The invariant is `Growing`: the intervals of all are those that the
+-- run so far and the rest make. Assumes nothing.
+use lib.ListN.{length}
+use mathlib.Core.List.{◌∷◌}
 use Rattle.stretches.proofs.Growing.{Growing}
 use Rattle.stretches.proofs.grown.Given as goal
 
-abbrev pub invariant-loop-next : goal.invariant-loop-next
-invariant-loop-next l = Growing l.stretches l.m l.t l.start l.end l.next
+abbrev pub invariant-loop-k : goal.invariant-loop-k
+invariant-loop-k l = Growing (l.first ∷ l.fn.behind) l.start l.end l.rest
 
-abbrev pub decreases-loop-next : goal.decreases-loop-next
-decreases-loop-next l = l.m - l.next
+abbrev pub decreases-loop-k : goal.decreases-loop-k
+decreases-loop-k l = length l.rest

@@ -1,13 +1,8 @@
--- `has_room`: by a bound, else by the length. No loop. Assumes nothing.
-use mathlib.Core.Path.{sym, ap}
-use Prim.Native.Nat.{ℕ}
-use native.Mathlib.Omega.{arith}
-use lib.Dec.{leb}
+-- `has_room`: by a bound. Assumes nothing.
+use mathlib.Core.Path.{sym, ◌∙◌}
+use borrow.Author.Tests.{le-leb}
 use Rattle.stretches.proofs.Measuring.{room-enough}
 use Rattle.stretches.proofs.has_room.Goals as goal
 
-pub returns-then-m-bytes : goal.returns-then-m-bytes
-returns-then-m-bytes c = sym (room-enough _ _ _ _ c.requires.2 (omega arith))
-
-pub returns : goal.returns
-returns c = ap (λ (z : ℕ). leb z c.args.room) c.long.ensures
+pub returns-then-stretches-bytes : goal.returns-then-stretches-bytes
+returns-then-stretches-bytes c = le-leb _ _ c.if-stretches-bytes.true ∙ sym (room-enough _ _ _ c.requires.1 c.if-stretches-bytes.true)

@@ -42,10 +42,10 @@ pub returns-then-inside : goal.returns-then-inside
 unfolding strided_address
 returns-then-inside c =
     let w = window-inv c.args.base c.args.room c.requires.1 in
-    let f = in-window-inv c.args.base c.args.room c.strided_address-address.result c.span.result
+    let f = in-window-inv c.args.base c.args.room c.address-address.result c.span.result
     (sym c.inside.ensures ∙ c.if-inside.true) in
-    let r : c.strided_address-address.result ≡ strided_address c.args.s c.args.s.low =
-    c.strided_address-address.ensures ∙ ap (λ (i : ℕ). (c.args.s.start + i) % 2 ^ 64) c.lead.ensures in
+    let r : c.address-address.result ≡ strided_address c.args.s c.args.s.low =
+    c.address-address.ensures ∙ ap (λ (i : ℕ). (c.args.s.start + i) % 2 ^ 64) c.lead.ensures in
     λ z q.
     sym
     (all-reached c.args.s c.args.vb c.requires.0 z c.args.base c.args.room q (omega (arith, c.if-s.false)) w.1

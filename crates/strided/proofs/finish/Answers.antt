@@ -13,7 +13,7 @@ use Rattle.accesses.proofs.Sizes.{gap-small, reach-small}
 use Rattle.strided.specs.Runs.{run_count, run_size}
 use Rattle.strided.proofs.Covering.{bytes_small, runs-small, bounds, room, total-spaced, separate-as, strided-short, strided-done}
 use Rattle.strided.proofs.finish.Goals as goal
-use Rattle.strided.proofs.finish.Goals.{After-strided_address}
+use Rattle.strided.proofs.finish.Goals.{After-address}
 
 -- of the runs
 module _ (s : StridedAccess) (vb : ℕ) (o : StridedSound s vb) (l : s.low < s.high) where
@@ -81,18 +81,18 @@ lead-requires c =
     let o = c.requires.strided_sound in
     leads c.args.s c.args.vb o.0 o.1
 
-module _ (d : After-strided_address) where
+module _ (d : After-address) where
   z-bytes : Bytes d.args.z.now
   z-bytes = bytes-at d.args.z.now (λ i. (d.type_inv.z i).fits)
 
   memory-bytes : Bytes d.args.memory.now
   memory-bytes = bytes-at d.args.memory.now (λ i. (d.type_inv.memory i).fits)
 
-  address : d.strided_address.result ≡ strided_address d.args.s d.args.s.low
+  address : d.address.result ≡ strided_address d.args.s d.args.s.low
   unfolding strided_address
-  address = d.strided_address.ensures ∙ ap (λ (i : ℕ). (d.args.s.start + i) % 2 ^ 64) d.lead.ensures
+  address = d.address.ensures ∙ ap (λ (i : ℕ). (d.args.s.start + i) % 2 ^ 64) d.lead.ensures
 
-  below : d.args.base ≤ d.strided_address.result
+  below : d.args.base ≤ d.address.result
   below =
       let a = d.args in
       let o = d.requires.strided_sound in
@@ -100,7 +100,7 @@ module _ (d : After-strided_address) where
       omega (arith, (bounds a.s a.vb o.0 a.z.now d.requires.z_len z-bytes o.1 a.base a.memory.now memory-bytes m.0 m.1).0, address)
 
   abbrev at : ℕ
-  at = d.strided_address.result - d.args.base
+  at = d.address.result - d.args.base
 
   at-is : at ≡ strided_address d.args.s d.args.s.low - d.args.base
   at-is = ap (λ (x : ℕ). x - d.args.base) address
@@ -113,7 +113,7 @@ module _ (d : After-strided_address) where
       omega (arith, room a.s a.vb o.0 a.z.now d.requires.z_len z-bytes o.1 a.base a.memory.now memory-bytes m.0 m.1, at-is)
 
 pub overflow_sub-at : goal.overflow_sub-at
-overflow_sub-at c = below (goal.at.overflow_sub-at c).After-strided_address
+overflow_sub-at c = below (goal.at.overflow_sub-at c).After-address
 
 pub copy_active-counts-requires : goal.copy_active-counts-requires
 copy_active-counts-requires c =
@@ -121,12 +121,12 @@ copy_active-counts-requires c =
       strided_sound = c.requires.strided_sound.0;
       z_len = c.requires.z_len;
       memory_len_bound =
-          ((window-inv _ _ c.requires.memory_value.0).0, fits (goal.at.copy_active-counts-requires c).After-strided_address);
+          ((window-inv _ _ c.requires.memory_value.0).0, fits (goal.at.copy_active-counts-requires c).After-address);
     }
 
 pub compose_spaced-composed-requires : goal.compose_spaced-composed-requires
 compose_spaced-composed-requires c =
-    let d = (goal.at.compose_spaced-composed-requires c).After-strided_address in
+    let d = (goal.at.compose_spaced-composed-requires c).After-address in
     let a = c.args in
     let o = c.requires.strided_sound in
     let m = c.requires.memory_value in
@@ -134,20 +134,18 @@ compose_spaced-composed-requires c =
     let w = window-inv _ _ m.0 in
     let l = c.copy_active-counts.auto.memory in
     record {
-      le_size = (
-        omega (arith, r.ensures.1, (small a.s a.vb o.0 o.1).1),
-        omega (arith, gap-small a.s a.vb o.0),
-        omega (arith, l, w.0),
-        omega (arith, l, w.1),
-        omega (arith, total-spaced (at d) a.s.gap r.result.size r.result.count),
-      );
+      some = omega (arith, r.ensures.1, (small a.s a.vb o.0 o.1).1);
+      near = omega (arith, gap-small a.s a.vb o.0);
+      small = omega (arith, l, w.0);
+      top = omega (arith, l, w.1);
+      room = omega (arith, total-spaced (at d) a.s.gap r.result.size r.result.count);
       separate = separate-as a.s a.vb o.0 a.z.now c.requires.z_len (z-bytes d) o.1 a.base a.memory.now (memory-bytes d) m.0 m.1 l (at-is d)
           r.ensures.1 r.ensures.0;
     }
 
 pub returns : goal.returns
 returns c =
-    let d = (goal.at.returns c).After-strided_address in
+    let d = (goal.at.returns c).After-address in
     let a = c.args in
     let o = c.requires.strided_sound in
     let m = c.requires.memory_value in

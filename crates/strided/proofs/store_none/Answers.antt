@@ -16,7 +16,7 @@ pub compose_spaced-composed-requires : goal.compose_spaced-composed-requires
 unfolding spaced total
 compose_spaced-composed-requires c =
     let w = window-inv _ _ c.requires in
-    record { le_size = (omega arith, omega arith, w.0, w.1, omega arith); separate = tt }
+    record { some = omega arith; near = omega arith; small = w.0; top = w.1; room = omega arith; separate = tt }
 
 pub returns : goal.returns
 returns c =

@@ -6,7 +6,7 @@ use native.Mathlib.Omega.{arith}
 use lib.ListN.{length}
 use Rattle.window.specs.Window.{in_window}
 use Rattle.elements.specs.Accesses.{strided_address, strided_element}
-use Rattle.accesses.proofs.Sizes.{high_small, reach-small, bytes-long}
+use Rattle.accesses.proofs.Sizes.{reach-small, bytes-long}
 use Rattle.checks.proofs.Ranging.{ranged-first, ranged-in, ranged-out, ranged-done}
 use Rattle.checks.proofs.Spans.{window}
 use Rattle.strided.proofs.walk.Goals as goal
@@ -25,7 +25,7 @@ tested : (k : After-inside) → (z : List ℕ) → length z ≡ 32 * k.args.vb
     in_window k.args.base k.args.room x.address (length x.bytes) ≡ k.inside.result
 unfolding strided_element strided_address
 tested k z q =
-    window k.args.base k.args.room k.strided_address-address.ensures
+    window k.args.base k.args.room k.address-address.ensures
     (bytes-long k.args.s k.args.vb k.requires z q k.loop-k.k k.loop-k-test.true)
     ∙ sym k.inside.ensures
 
@@ -41,12 +41,8 @@ returns-then-not-inside c =
       sym (ranged-out c.args.s c.args.vb c.requires z c.args.base c.args.room l.k c.loop-k-test.true (l.invariant z q)
           c.inside.result (tested (goal.at.returns-then-not-inside c).After-inside z q) c.if-not-inside.true),
       refl,
-      c.strided_address-address.ensures,
+      c.address-address.ensures,
     )
-
-pub overflow_add-k : goal.overflow_add-k
-overflow_add-k c =
-    omega (arith, c.loop-k-test.true, high_small c.args.s c.args.vb c.requires)
 
 pub loop-k-preserved : goal.loop-k-preserved
 loop-k-preserved c =

@@ -12,6 +12,3 @@ abbrev pub invariant-loop-k : goal.invariant-loop-k
 invariant-loop-k l =
     (z : List ℕ) → length z ≡ 32 * l.vb
     → first_outside l.base l.room (listed (strided_element l.s l.vb z) (l.s.high - l.k) l.k) ≡ first_outside l.base l.room (strided_elements l.s l.vb z)
-
-abbrev pub decreases-loop-k : goal.decreases-loop-k
-decreases-loop-k l = l.high - l.k

@@ -20,20 +20,20 @@ bytes k = bytes-at k.args.memory.now (λ i. (k.type_inv.memory i).fits)
 pub returns-then-patch-n : goal.returns-then-patch-n
 returns-then-patch-n c =
     let b = bytes-at c.args.memory.now (λ i. (c.type_inv.memory i).fits) in
-    λ es R. one-short _ _ _ c.args.memory.now _ _ _ es R c.requires.n_len b _ (omega (arith, c.if-patch-n.true))
+    λ es R. one-short _ _ _ c.args.memory.now _ _ es R c.requires.one b _ (omega (arith, c.if-patch-n.true))
 
 pub write_keys-counts-requires : goal.write_keys-counts-requires
 write_keys-counts-requires c =
     let r = c.requires.ready in
     record {
-      n_in_bounds = (r.1.in_array, r.1.few, omega arith);
-      each = ready-placed _ _ _ c.args.memory.now _ _ _ r.0 r.1;
+      few = (r.1.few, omega arith);
+      each = ready-placed _ _ _ c.args.memory.now _ _ r.0 r.1;
     }
 
 pub bounds-keys-0 : goal.bounds-keys-0
 bounds-keys-0 c =
     let r = c.requires.ready in
-    omega (arith, one-some _ _ _ c.args.memory.now _ _ _ r.0 r.1 c.requires.n_len, r.1.in_array)
+    omega (arith, one-some _ _ _ c.args.memory.now _ _ r.0 r.1 c.requires.one)
 
 pub compose_one-written-requires : goal.compose_one-written-requires
 compose_one-written-requires c =
@@ -41,8 +41,8 @@ compose_one-written-requires c =
     let M = c.args.memory.now in
     let b = bytes (goal.at.compose_one-written-requires c).Else-patch-n in
     let l : length c.write_keys-counts.new.memory ≡ length c.args.memory.now = c.write_keys-counts.auto.memory in (
-      omega (arith, one-some _ _ _ M _ _ _ r.0 r.1 c.requires.n_len),
-      omega (arith, one_inside _ _ _ M _ _ _ r.0 r.1 c.requires.n_len b, c.start_of.ensures.0, l),
+      omega (arith, one-some _ _ _ M _ _ r.0 r.1 c.requires.one),
+      omega (arith, one_inside _ _ _ M _ _ r.0 r.1 c.requires.one b, c.start_of.ensures.0, l),
       omega (arith, c.if-patch-n.false),
       omega (arith, r.1.top, l),
     )
@@ -52,9 +52,9 @@ returns c =
     let r = c.write_keys-counts.ensures in
     let b = bytes (goal.at.returns c).Else-patch-n in
     λ es R.
-    one-done _ _ _ c.args.memory.now _ _ _ es R c.requires.n_len b _ (omega (arith, c.if-patch-n.false)) _ _ _ _ _
+    one-done _ _ _ c.args.memory.now _ _ es R c.requires.one b _ (omega (arith, c.if-patch-n.false)) _ _ _ _ _
     r.elements_value.0 r.elements_value.1 r.memory_after c.compose_one-written.ensures.value
     (c.compose_one-written.ensures.out_after
     ∙ ap (λ (a : ℕ). overwritten c.args.patch.now 0
-    (encode_runs (cut c.args.base c.write_keys-counts.new.memory (interval a (c.args.n * 8) ∷ []))))
+    (encode_runs (cut c.args.base c.write_keys-counts.new.memory (interval a (length c.args.keys.now * 8) ∷ []))))
     c.start_of.ensures.0)

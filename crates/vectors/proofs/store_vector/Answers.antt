@@ -2,9 +2,9 @@
 use mathlib.Core.Path.{◌≡◌, sym, ap, ◌∙◌, subst}
 use mathlib.Core.List.{List}
 use mathlib.Core.Bool.{cond}
-use Prim.Native.Nat.{ℕ, ◌+◌, ◌*◌, ◌/◌, ◌%◌, ◌^◌}
+use Prim.Native.Nat.{ℕ, ◌+◌, ◌*◌, ◌/◌, ◌%◌, ◌^◌, ◌≤◌}
 use native.Mathlib.Omega.{arith}
-use lib.ListN.{length, drop}
+use lib.ListN.{length, take, drop, length-take}
 use Rattle.endian.specs.LittleEndian.{Bytes}
 use Rattle.window.specs.Window.{in_window}
 use Rattle.writes.specs.Elements.{Element}
@@ -13,8 +13,8 @@ use Rattle.elements.specs.Accesses.{VectorSound, vector_elements}
 use Rattle.checks.specs.Checking.{vectors_in}
 use Rattle.checks.proofs.Spans.{z-room, z-long, p-room, p-long}
 use Rattle.gathering.specs.Gathering.{GatheredAs}
-use Rattle.gathering.specs.declared.Gathered.{Gathered}
-use Rattle.gathering.specs.declared.Gathered.TheVariants as G
+use Rattle.std.specs.Prelude.{Result, Ok}
+use Rattle.verdicts.specs.declared.Outside.{Outside}
 use Rattle.vectors.specs.Steps.{Ready}
 use Rattle.outcomes.proofs.Concluding.{stored-fault, stored-listed, under-fault}
 use Rattle.vectors.proofs.Ready.{vector-few, ready, gathered-out, gathered-keys}
@@ -87,39 +87,55 @@ gather_vector-requires c =
     )
 
 -- the keys
-ready_at : (r : After-register_of-stored) (A : List ℕ) (g : Gathered) → length A ≡ 64
-    → GatheredAs r.args.base (length r.args.memory.now) r.args.v.size (es r) A g → (n : ℕ) → g ≡ G.Keys n
-    → Ready r.args.base (length r.args.memory.now) r.args.v.step r.args.v.size (stored r) A n (es r)
-ready_at r A g l h n q =
+ready_at : (r : After-register_of-stored) (A : List ℕ) (g : Result ℕ Outside)
+    → GatheredAs r.args.base (length r.args.memory.now) r.args.v.size (es r) A g → (n : ℕ) → g ≡ Ok n
+    → Ready r.args.base (length r.args.memory.now) r.args.v.step r.args.v.size (stored r) (take n A) (es r)
+ready_at r A g h n q =
     let a = r.args in
     let k = gathered-keys a.base (length a.memory.now) a.v.size (es r) A g h n q in
-    ready a.v a.vb (offsets r) (governing r) (stored r) A a.base (length a.memory.now) n r.requires.vector_sound
-    (stored-long r) (stored_bytes r) r.requires.memory_value (omega (arith, l)) k.0 k.1
+    ready a.v a.vb (offsets r) (governing r) (stored r) (take n A) a.base (length a.memory.now) r.requires.vector_sound
+    (stored-long r) (stored_bytes r) r.requires.memory_value k.0 k.2
+
+few : (r : After-register_of-stored) (A : List ℕ) (g : Result ℕ Outside)
+    → GatheredAs r.args.base (length r.args.memory.now) r.args.v.size (es r) A g → (n : ℕ) → g ≡ Ok n → n ≤ length A
+few r A g h n q = (gathered-keys r.args.base (length r.args.memory.now) r.args.v.size (es r) A g h n q).1
+
+pub slice_bounds-keys-end : goal.slice_bounds-keys-end
+slice_bounds-keys-end c =
+    let r = (goal.at.slice_bounds-keys-end c).After-register_of-stored in
+    let g = c.gather_vector in
+    omega (arith, few r g.new.keys g.result (g.ensures (stored r) (stored-long r ∙ sym (offsets-long r))) _ c.in-Ok.is, g.auto.keys)
+
+pub slice_bounds-finish-end : goal.slice_bounds-finish-end
+slice_bounds-finish-end c =
+    let r = (goal.at.slice_bounds-finish-end c).After-register_of-stored in
+    let g = c.gather_vector in
+    simp length-take (omega (arith, few r g.new.keys g.result (g.ensures (stored r) (stored-long r ∙ sym (offsets-long r))) _ c.in-Ok.is, g.auto.keys))
 
 pub finish-requires : goal.finish-requires
 finish-requires c =
     let r = (goal.at.finish-requires c).After-register_of-stored in
     let g = c.gather_vector in
-    (es r, ready_at r g.new.keys g.result g.auto.keys (g.ensures (stored r) (stored-long r ∙ sym (offsets-long r))) _ c.in-Keys.is)
+    (es r, ready_at r g.new.keys g.result (g.ensures (stored r) (stored-long r ∙ sym (offsets-long r))) _ c.in-Ok.is)
 
-pub returns-in-Outside : goal.returns-in-Outside
-returns-in-Outside c =
-    let r = (goal.at.returns-in-Outside c).After-register_of-stored in
+pub returns-in-Err : goal.returns-in-Err
+returns-in-Err c =
+    let r = (goal.at.returns-in-Err c).After-register_of-stored in
     let a = c.args in
     let g = c.gather_vector in
     let W = a.base in
     let L = length a.memory.now in
-    let o = gathered-out W L a.v.size (es r) g.new.keys g.result (g.ensures (stored r) (stored-long r ∙ sym (offsets-long r))) _ _ c.in-Outside.is in
+    let o = gathered-out W L a.v.size (es r) g.new.keys g.result (g.ensures (stored r) (stored-long r ∙ sym (offsets-long r))) c.in-Err.outside c.in-Err.is in
     stored-listed (es-are r)
     (under-fault a.strict
     (stored-fault W a.v.size a.memory.now a.patch.now (es r) c.requires.memory_value _ _ o.0 o.1 o.2
     (omega (arith, o.3))
     (c.first_outside-address.ensures ∙ ap (λ (x : ℕ). cond (in_window W L x 1) ((W + L) % 2 ^ 64) x) o.3)) o.0 o.1)
 
-pub returns-in-Keys : goal.returns-in-Keys
-returns-in-Keys c =
-    let r = (goal.at.returns-in-Keys c).After-register_of-stored in
+pub returns-in-Ok : goal.returns-in-Ok
+returns-in-Ok c =
+    let r = (goal.at.returns-in-Ok c).After-register_of-stored in
     let g = c.gather_vector in
     stored-listed (es-are r)
     (c.finish.ensures (es r)
-    (ready_at r g.new.keys g.result g.auto.keys (g.ensures (stored r) (stored-long r ∙ sym (offsets-long r))) _ c.in-Keys.is))
+    (ready_at r g.new.keys g.result (g.ensures (stored r) (stored-long r ∙ sym (offsets-long r))) _ c.in-Ok.is))

@@ -4,9 +4,9 @@ use mathlib.Core.Path.{◌≡◌, sym, ap, ap₂, ◌∙◌}
 use Rattle.encoding.specs.Encoding.{class_for, feature_of, refused}
 use Rattle.encoding.specs.declared.Store.{Store}
 use Rattle.encoding.specs.declared.Store.TheVariants as S
-use Rattle.elements.specs.Machine.{machine}
+use Rattle.elements.specs.Machine.{lent}
 use Rattle.checks.specs.Checking.{access_for}
-use Rattle.checks.specs.declared.Checked.TheVariants.{Vector, Strided}
+use Rattle.checks.specs.declared.Access.TheVariants.{Vector, Strided}
 use Rattle.elements.specs.Accesses.{strided_of}
 use Rattle.checks.proofs.stores.access_for.Goals as goal
 
@@ -39,14 +39,13 @@ quadword_access-requires c =
 pub returns-in-Scatter : goal.returns-in-Scatter
 returns-in-Scatter c =
     let g = c.args in
-    λ z. ap Vector c.scatter_access.ensures
-    ∙ sym (ap (access_for (machine g.vb g.x.now g.sp z g.p.now)) c.in-Scatter.is)
+    ap Vector c.scatter_access.ensures
+    ∙ sym (ap (access_for (lent g.machine)) c.in-Scatter.is)
 
 pub returns-in-Strided : goal.returns-in-Strided
 returns-in-Strided c =
     let g = c.args in
-    λ z.
-    let m = machine g.vb g.x.now g.sp z g.p.now in
+    let m = lent g.machine in
     let f = c.in-Strided.f in
     ap Strided
     (c.strided_access.ensures ∙ ap₂ (strided_of (class_for (S.Strided f)) f) c.start_of-start.ensures c.range_for-range.ensures)
@@ -55,5 +54,5 @@ returns-in-Strided c =
 pub returns-in-Quadword : goal.returns-in-Quadword
 returns-in-Quadword c =
     let g = c.args in
-    λ z. ap Vector c.quadword_access.ensures
-    ∙ sym (ap (access_for (machine g.vb g.x.now g.sp z g.p.now)) c.in-Quadword.is)
+    ap Vector c.quadword_access.ensures
+    ∙ sym (ap (access_for (lent g.machine)) c.in-Quadword.is)

@@ -1,23 +1,19 @@
 -- `some_vector`: no element passed is active. Assumes nothing.
 use mathlib.Core.Path.{sym, ◌∙◌, subst}
 use Prim.Native.Nat.{ℕ, ◌*◌, ◌/◌, ◌<◌}
-use native.Mathlib.Omega.{arith}
 use Rattle.elements.specs.Accesses.{vector_active, vector_element, vector_elements}
 use Rattle.verdicts.specs.Verdicts.{some_active}
 use Rattle.checks.proofs.Walking.{walked-first, walked-off, sought-found, sought-none}
-use Rattle.checks.proofs.Spans.{bit_in, below_end, few}
+use Rattle.checks.proofs.Spans.{bit_in, below_end}
 use Rattle.checks.proofs.stores.some_vector.Goals as goal
 
 pub loop-e-init : goal.loop-e-init
 loop-e-init c =
-    let g = c.args in (
-      omega arith,
-      λ offsets stored. walked-first (vector_active g.v g.governing.now) (vector_element g.v offsets stored)
-          g.v.count some_active,
-    )
+    let g = c.args in
+    λ offsets stored. walked-first (vector_active g.v g.governing.now) (vector_element g.v offsets stored) g.v.count some_active
 
-pub vector_active-requires : goal.vector_active-requires
-vector_active-requires c =
+pub is_active-requires : goal.is_active-requires
+is_active-requires c =
     let e = c.loop-e.e in
     record {
       step_in_bounds = subst (λ (n : ℕ). e * c.args.v.step / 8 < n) (sym c.requires.governing_len)
@@ -25,29 +21,24 @@ vector_active-requires c =
       step_bound = below_end c.args.v c.args.vb c.requires.vector_sound e c.loop-e-test.true;
     }
 
-pub returns-then-vector_active : goal.returns-then-vector_active
+pub returns-then-is_active : goal.returns-then-is_active
 unfolding vector_elements
-returns-then-vector_active c =
+returns-then-is_active c =
     let g = c.args in
     let l = c.loop-e in
     λ offsets stored.
     sought-found (vector_active g.v g.governing.now) (vector_element g.v offsets stored) g.v.count l.e
     c.loop-e-test.true
-    (l.invariant.1 offsets stored) (sym c.vector_active.ensures ∙ c.if-vector_active.true)
-
-pub overflow_add-e : goal.overflow_add-e
-overflow_add-e c = omega (arith, few c.args.v c.args.vb c.requires.vector_sound)
+    (l.invariant offsets stored) (sym c.is_active.ensures ∙ c.if-is_active.true)
 
 pub loop-e-preserved : goal.loop-e-preserved
 loop-e-preserved c =
     let g = c.args in
-    let l = c.loop-e in (
-      omega arith,
-      λ offsets stored.
-          walked-off (vector_active g.v g.governing.now) (vector_element g.v offsets stored) g.v.count some_active l.e
-          c.loop-e-test.true
-          (l.invariant.1 offsets stored) (sym c.vector_active.ensures ∙ c.if-vector_active.false),
-    )
+    let l = c.loop-e in
+    λ offsets stored.
+    walked-off (vector_active g.v g.governing.now) (vector_element g.v offsets stored) g.v.count some_active l.e
+    c.loop-e-test.true
+    (l.invariant offsets stored) (sym c.is_active.ensures ∙ c.if-is_active.false)
 
 pub returns : goal.returns
 unfolding vector_elements
@@ -55,4 +46,4 @@ returns c =
     let g = c.args in
     let l = c.loop-e in
     λ offsets stored. sought-none (vector_active g.v g.governing.now) (vector_element g.v offsets stored) g.v.count l.e
-    c.loop-e-test.false (l.invariant.1 offsets stored)
+    c.loop-e-test.false (l.invariant offsets stored)

@@ -1,10 +1,6 @@
 -- `differing`: the loop over the addresses. Invariant: those so far, and those to come. Assumes nothing.
-use Prim.Native.Nat.{◌-◌}
 use Rattle.comparing.proofs.Zipping.{Counting}
 use Rattle.comparing.proofs.parts.differing.Given as goal
 
 abbrev pub invariant-loop-i : goal.invariant-loop-i
 invariant-loop-i l = Counting l.p l.q l.len l.i l.n
-
-abbrev pub decreases-loop-i : goal.decreases-loop-i
-decreases-loop-i l = l.len - l.i

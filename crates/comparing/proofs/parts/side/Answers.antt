@@ -4,7 +4,7 @@ use Rattle.comparing.proofs.Zipping.{side-in, side-past}
 use Rattle.comparing.proofs.parts.side.Goals as goal
 
 pub returns-then-i-p : goal.returns-then-i-p
-returns-then-i-p c = c.wide.ensures.0 ∙ side-in _ _ c.if-i-p.true
+returns-then-i-p c = c.from.ensures ∙ side-in _ _ c.if-i-p.true
 
 pub returns : goal.returns
 returns c = side-past _ _ c.if-i-p.false

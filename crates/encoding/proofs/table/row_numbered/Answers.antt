@@ -1,19 +1,18 @@
--- `table::row_numbered`: classes are numbered from 1. Assumes nothing.
-use mathlib.Core.Path.{sym}
-use Prim.Native.Nat.{◌-◌}
-use native.Mathlib.Omega.{arith}
-use Rattle.encoding.specs.Classes.{classes}
-use Rattle.encoding.proofs.Rows.{numbered-found, numbered-none}
+-- `table::row_numbered`: a class's number is one more than its row. Assumes nothing.
+use Rattle.std.proofs.Common.{arith}
+use Rattle.encoding.specs.Classes.{classes, any, inside, mask_below, mask_of, has}
+use Rattle.encoding.specs.Encoding.{lowest}
+use Rattle.encoding.proofs.Rows.{rows, number-listed, number-unlisted}
 use Rattle.encoding.proofs.table.row_numbered.Goals as goal
 
-pub returns-then-class-eq0 : goal.returns-then-class-eq0
-unfolding classes
-returns-then-class-eq0 c = sym (numbered-none c.args.class (λ k h e. omega arith))
+pub returns-in-1-to-36 : goal.returns-in-1-to-36
+unfolding classes any inside mask_below mask_of has lowest rows
+returns-in-1-to-36 c = number-listed c.args.class _ (omega arith) (omega arith)
 
-pub returns-then-k-lt-CLASSES : goal.returns-then-k-lt-CLASSES
+pub returns-in_default : goal.returns-in_default
 unfolding classes
-returns-then-k-lt-CLASSES c = let n = c.args.class in sym (numbered-found n (n - 1) (omega arith) (omega arith))
+returns-in_default c = number-unlisted c.args.class (λ h l. omega arith)
 
-pub returns-else-k-lt-CLASSES : goal.returns-else-k-lt-CLASSES
+pub returns-in_default-2 : goal.returns-in_default-2
 unfolding classes
-returns-else-k-lt-CLASSES c = sym (numbered-none c.args.class (λ k h e. omega arith))
+returns-in_default-2 c = number-unlisted c.args.class (λ h l. omega arith)

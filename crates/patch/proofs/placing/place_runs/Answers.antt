@@ -75,8 +75,5 @@ loop-k-preserved c =
     (part-over c.loop-k.memory (c.le64-start.result - c.args.base) n _ (take n (drop from s))
     (length_part s from n (stands (goal.at.loop-k-preserved c).After-le16-len)) (c.copy.ensures ∙ part-is s from n))
 
-pub shape_of-memory : goal.shape_of-memory
-shape_of-memory c = c.loop-k.invariant.long
-
 pub returns : goal.returns
-returns c = writing-done _ _ _ _ _ _ _ c.loop-k.invariant c.loop-k-test.false
+returns c = writing-done _ _ _ _ _ _ _ c.loop-k.invariant (omega arith)

@@ -1,7 +1,0 @@
--- `vector_active`: the predicate's bit at the element's first byte. No loop. Assumes nothing.
-use Rattle.elements.specs.Accesses.{vector_active}
-use Rattle.elements.proofs.vector_active.Goals as goal
-
-pub returns : goal.returns
-unfolding vector_active
-returns c = c.bit.ensures
