@@ -32,7 +32,7 @@ pub fn write_keys<const SIZE: usize>(
     for k in keys {
         let at = stretches::start_of(*k);
         let from = number_of(*k) * step;
-        memory[at..at + SIZE].copy_from_slice(&stored[from..from + SIZE]);
+        endian::copy(&mut memory[at..at + SIZE], &stored[from..from + SIZE]);
         elements += 1;
         bytes += SIZE as u64;
     }

@@ -17,7 +17,7 @@ loop-k-preserved g c =
       omega (arith, i.0),
       omega (arith, i.1, suc-mul l.k-index s, ap (λ (y : ℕ). y * s) (add-one l.k-index)),
       writing-next _ _ _ _ _ _ _ i.2 c.loop-k-test.true _ _ _ c.start_of-at.ensures.0 c.number_of.ensures.0
-          (copied-part _ _ _ _ _ _ r.1 c.copy_from_slice.ensures.after),
+          (copied-part _ _ _ _ _ _ r.1 c.copy.ensures),
     )
 
 pub returns : goal.returns

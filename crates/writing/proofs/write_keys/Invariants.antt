@@ -1,4 +1,4 @@
--- `write_keys`: key by key, each element's bytes copied to its part of memory. The invariant is `Writing`: what the keys from t on put
+-- `write_keys`: key by key, each element's part of memory lent to the byte writer. The invariant is `Writing`: what the keys from t on put
 -- over memory is what all put over memory at the start; t of them are counted. Assumes nothing.
 use mathlib.Core.Path.{◌≡◌}
 use Prim.Native.Nat.{◌*◌}
