@@ -1,8 +1,9 @@
 // Checking a decoded store: verdicts 4 to 6.
 ghost use Rattle.std.specs.Prelude.{◌≡◌, true, false, List, ℕ, ◌*◌, ◌/◌, ◌%◌, ◌^◌, ◌≤◌, length};
+ghost use Rattle.endian.specs.LittleEndian.{Bytes};
 ghost use Rattle.encoding.specs.Encoding.{feature_of, refused};
 ghost use Rattle.encoding.specs.declared.Feature.TheVariants.{SME2};
-ghost use Rattle.elements.specs.Machine.{lent};
+ghost use Rattle.elements.specs.Machine.{lent_with};
 ghost use Rattle.elements.specs.Counter.{highest};
 ghost use Rattle.elements.specs.Accesses.{VectorSound, vector_elements, StridedSound, strided_elements};
 ghost use Rattle.verdicts.specs.Verdicts.{on_stack, some_active, stack};
@@ -82,7 +83,7 @@ fn access_for(store: Store, machine: Machine) -> Access
     requires store_value { refused store ≡ false }
     requires le_vb { (16 ≤ machine.vb) × (machine.vb ≤ 256) × (length machine.p.now ≡ 2 * machine.vb)
         × (feature_of store ≡ SME2 → 4 * machine.vb ≡ 2 ^ highest machine.vb) }
-    ensures { result ≡ access_for (lent machine.entry) store }
+    ensures { (z : List ℕ) → result ≡ access_for (lent_with machine.entry z) store }
 {
     let Machine { vb, x, sp, z: _, p } = machine;
     match store {
@@ -100,8 +101,8 @@ fn access_for(store: Store, machine: Machine) -> Access
 fn is_stack_for(access: Access, machine: Machine, on_stack: bool, flags: Flags) -> bool
     requires access_sound { AccessSound access machine.vb }
     requires vb_value { (machine.vb % 16 ≡ 0) × (length machine.p.now ≡ 2 * machine.vb) }
-    ensures { result ≡ stack flags machine.entry.sp on_stack
-        (elements_in access machine.entry.vb machine.entry.z.now machine.entry.p.now) }
+    ensures { (z : List ℕ) → result ≡ stack flags machine.entry.sp on_stack
+        (elements_in access machine.entry.vb z machine.entry.p.now) }
 {
     let Machine { vb, sp, .. } = machine;
     match access {
@@ -113,13 +114,13 @@ fn is_stack_for(access: Access, machine: Machine, on_stack: bool, flags: Flags) 
     }
 }
 
-// From verdict 4 on, for a decoded store.
+// From verdict 4 on, for a decoded store: the same whatever the Z buffer holds, which isn't read.
 pub fn check_store(store: Store, flags: Flags, machine: Machine) -> Result<Access, Refusal>
     requires store_value { refused store ≡ false }
     requires le_vb { (16 ≤ machine.vb) × (machine.vb ≤ 256) × (machine.vb % 16 ≡ 0) × (length machine.p.now ≡ 2 * machine.vb)
         × (flags.streaming ≡ true → 4 * machine.vb ≡ 2 ^ highest machine.vb) }
-    ensures { Sound machine.entry.vb machine.entry.z.now machine.entry.p.now
-        → result ≡ checked_for flags (lent machine.entry) store }
+    ensures { (z : List ℕ) → Sound machine.entry.vb z machine.entry.p.now → Bytes z
+        → result ≡ checked_for flags (lent_with machine.entry z) store }
 {
     let feature = feature_for(store);
     if is_off(flags, feature) {

@@ -17,16 +17,6 @@ fn flags() -> Flags {
     }
 }
 
-fn lent<'a>(x: &'a [u64; 31], z: &'a [u8], p: &'a [u8]) -> Machine<'a> {
-    Machine {
-        vb: 16,
-        x,
-        sp: 0,
-        z,
-        p,
-    }
-}
-
 // Class 4 from Z1 with the offset in element 0 of Z2, which is active, and X0 as base.
 pub(crate) fn scatter(
     start: u64,
@@ -42,7 +32,7 @@ pub(crate) fn scatter(
     p[0] = 1;
     let mut x = [0u64; 31];
     x[0] = start;
-    let machine = lent(&x, &z, &p);
+    let machine = Machine::new(16, &x, 0, &z, &p);
     storing::store(machine, flags(), base, memory, 0xe582a001, patch)
 }
 
@@ -57,6 +47,6 @@ pub(crate) fn strided(counter: u16, memory: &mut [u8], patch: &mut [u8]) -> Verd
     p[16..18].copy_from_slice(&counter.to_le_bytes());
     let mut x = [0u64; 31];
     x[0] = 0x1000;
-    let machine = lent(&x, &z, &p);
+    let machine = Machine::new(16, &x, 0, &z, &p);
     storing::store(machine, flags(), x[0], memory, 0xa1606000, patch)
 }

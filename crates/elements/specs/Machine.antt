@@ -17,6 +17,10 @@ machine vb x sp z p = record { vb = vb; x = x; sp = sp; z = z; p = p }
 abbrev pub lent : Rust.Machine → Machine
 lent m = machine m.vb m.x.now m.sp m.z.now m.p.now
 
+-- the same with another Z buffer
+abbrev pub lent_with : Rust.Machine → List ℕ → Machine
+lent_with m z = machine m.vb m.x.now m.sp z m.p.now
+
 -- "Register number 31 is SP as Rn, and zero as Rm."
 abbrev pub base_of : Machine → ℕ → ℕ
 base_of m n = cond (n == 31) m.sp (slice_index m.x n)

@@ -8,7 +8,7 @@ ghost use Rattle.std.specs.Prelude.{◌≡◌, ◌+◌, ◌-◌, ◌*◌, ◌/�
 ghost use Rattle.std.specs.Int.{w64};
 ghost use Rattle.std.proofs.Common.{of_z};
 ghost use Rattle.encoding.specs.Encoding.{class_for, refused};
-ghost use Rattle.elements.specs.Machine.{machine, register, bit_at};
+ghost use Rattle.elements.specs.Machine.{machine, lent, register, bit_at};
 ghost use Rattle.elements.specs.Stores.{signed32, start_of};
 ghost use Rattle.elements.specs.Accesses.{scatter_access, quadword_access, strided_of};
 ghost use Rattle.elements.specs.Accesses.{offset_bytes, offset_from, address_from, vector_address, vector_active};
@@ -21,8 +21,7 @@ pub use machine::Machine;
 // `quadword_access` and `strided_of` in specs/ make an access of any machine and any fields, refused ones too.
 
 // A scatter or quadword store: offset and base of each address, bytes from element to element, bytes to move, the elements' number,
-// and the registers with the offsets, the predicate and the data. The one-byte field comes first, where a refusal's tag lies in what
-// `check` answers: eight bytes there would be stored in pieces and read late.
+// and the registers with the offsets, the predicate and the data.
 #[derive(Clone, Copy)]
 pub struct VectorAccess {
     pub extension: Option<Extension>,
@@ -66,6 +65,15 @@ pub struct Range {
 pub struct Counts {
     pub elements: u64,
     pub bytes: u64,
+}
+
+impl<'a> Machine<'a> {
+    // The machine of these parts. Nothing is asked of them: `z` is a slice here, and so brings the fact of the ghost field.
+    pub fn new(vb: usize, x: &'a [u64; 31], sp: u64, z: &'a [u8], p: &'a [u8]) -> Machine<'a>
+        ensures { lent result ≡ machine vb x.now sp z.now p.now }
+    {
+        Machine { vb, x, sp, z, p }
+    }
 }
 
 // Bit i of a row of bytes.

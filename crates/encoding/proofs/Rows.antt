@@ -162,9 +162,17 @@ get_or-map-in f [] d e k h = absurd (not-suc-le-zero h)
 get_or-map-in f (x ∷ l) d e zero h = refl
 get_or-map-in f (x ∷ l) d e (suc k) h = get_or-map-in f l d e k (le_of_suc-le-suc h)
 
+-- what is kept of each class, in their order
+unfoldable pub column : {B : Type 0} → (Class → B) → List B
+column f = map f classes
+
+pub column-at : {B : Type 0} (f : Class → B) (e : B) (k : ℕ) → k < length classes → get_or (column f) k e ≡ f (class_at k)
+unfolding column class_at
+column-at f e k h = get_or-map-in f classes no_class e k h
+
 pub row-at : (e : Row) (k : ℕ) → k < length classes → get_or rows k e ≡ row_in (class_at k)
-unfolding rows class_at
-row-at e k h = get_or-map-in row_in classes no_class e k h
+unfolding rows column
+row-at = column-at row_in
 
 pub listed-row : (k : ℕ) → k < length classes → listed k ≡ Some (row_in (class_at k))
 listed-row k h = cond-true (ltb k (length classes)) (Some (row_in (class_at k))) None (lt→ltb k (length classes) h)

@@ -6,7 +6,7 @@ ghost use Rattle.stretches.specs.Stretches.{start_of, end_of};
 ghost use Rattle.overlapping.specs.Overlaps.{parted, meets, meets_any, first_meeting};
 
 // Whether two of the stretches, by ascending start, share a byte: one of them starts before the one before it ends.
-fn some_overlap(stretches: &[u32]) -> bool
+pub fn some_overlap(stretches: &[u32]) -> bool
     ensures { result ≡ not (parted 0 stretches.now) }
 {
     let mut end = 0;
@@ -35,7 +35,7 @@ fn shares_one(keys: &[u32], k: u32) -> bool
 }
 
 // The lowest of the keys that shares a byte with a lower one, where one does.
-fn first_meeting(keys: &[u32]) -> Option<u32>
+pub fn first_meeting(keys: &[u32]) -> Option<u32>
     ensures { result ≡ first_meeting keys.now }
 {
     for (e, k) in keys.iter().enumerate() {

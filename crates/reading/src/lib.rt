@@ -16,13 +16,14 @@ pub enum Head {
     Trailer { count: usize },
 }
 
-// Where the reader stands, with the runs and payload bytes behind it and the last address that they write.
+// Where the reader stands, with the runs and payload bytes behind it and the last address that they write. Numbers that judging answers
+// together don't stand side by side: one wide load of both would wait for their two stores.
 #[derive(Debug, Clone, Copy, PartialEq, Eq)]
 pub struct Cursor {
-    pub at: usize,
     pub runs: usize,
-    pub bytes: usize,
     pub last: u64,
+    pub bytes: usize,
+    pub at: usize,
 }
 
 impl Cursor {

@@ -31,7 +31,7 @@ fn finish_one(
     if patch.len() < n * 8 + 16 {
         return Err(Refusal::NoRoom);
     }
-    let counts = writing::write_keys::<8>(keys, 8, stored, memory);
+    let counts = writing::write_sized::<8>(keys, 8, stored, memory);
     let written = cutting::compose_one(base, stretches::start_of(keys[0]), n * 8, memory, patch);
     Ok(Done {
         elements: counts.elements,

@@ -65,7 +65,7 @@ returns-in-Some c =
     let b = bytes-at g.machine.z.now g.machine.bytes in
     let o = sound g.flags (m (goal.at.returns-in-Some c).Start) g.base g.length g.word c.length_ok.result c.length_ok.ensures
     (ap not c.if-not-length_ok.false) c.if-z-vb.false in
-    subst (CheckedAs g.flags (m (goal.at.returns-in-Some c).Start) g.base g.length g.word) (sym (c.check_store.ensures o))
+    subst (CheckedAs g.flags (m (goal.at.returns-in-Some c).Start) g.base g.length g.word) (sym (c.check_store.ensures g.machine.z.now o b))
     (known_as g.flags (m (goal.at.returns-in-Some c).Start) g.base g.length g.word b o
     (sym c.window_ok.ensures ∙ c.if-not-window_ok.false)
     (of-decoded g.flags (m (goal.at.returns-in-Some c).Start) g.base g.length g.word c.length_ok.result c.length_ok.ensures

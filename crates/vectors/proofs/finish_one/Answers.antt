@@ -22,8 +22,8 @@ returns-then-patch-n c =
     let b = bytes-at c.args.memory.now (λ i. (c.type_inv.memory i).fits) in
     λ es R. one-short _ _ _ c.args.memory.now _ _ es R c.requires.one b _ (omega (arith, c.if-patch-n.true))
 
-pub write_keys-counts-requires : goal.write_keys-counts-requires
-write_keys-counts-requires c =
+pub write_sized-counts-requires : goal.write_sized-counts-requires
+write_sized-counts-requires c =
     let r = c.requires.ready in
     record {
       few = (r.1.few, omega arith);
@@ -40,7 +40,7 @@ compose_one-written-requires c =
     let r = c.requires.ready in
     let M = c.args.memory.now in
     let b = bytes (goal.at.compose_one-written-requires c).Else-patch-n in
-    let l : length c.write_keys-counts.new.memory ≡ length c.args.memory.now = c.write_keys-counts.auto.memory in (
+    let l : length c.write_sized-counts.new.memory ≡ length c.args.memory.now = c.write_sized-counts.auto.memory in (
       omega (arith, one-some _ _ _ M _ _ r.0 r.1 c.requires.one),
       omega (arith, one_inside _ _ _ M _ _ r.0 r.1 c.requires.one b, c.start_of.ensures.0, l),
       omega (arith, c.if-patch-n.false),
@@ -49,12 +49,12 @@ compose_one-written-requires c =
 
 pub returns : goal.returns
 returns c =
-    let r = c.write_keys-counts.ensures in
+    let r = c.write_sized-counts.ensures in
     let b = bytes (goal.at.returns c).Else-patch-n in
     λ es R.
     one-done _ _ _ c.args.memory.now _ _ es R c.requires.one b _ (omega (arith, c.if-patch-n.false)) _ _ _ _ _
     r.elements_value.0 r.elements_value.1 r.memory_after c.compose_one-written.ensures.value
     (c.compose_one-written.ensures.out_after
     ∙ ap (λ (a : ℕ). overwritten c.args.patch.now 0
-    (encode_runs (cut c.args.base c.write_keys-counts.new.memory (interval a (length c.args.keys.now * 8) ∷ []))))
+    (encode_runs (cut c.args.base c.write_sized-counts.new.memory (interval a (length c.args.keys.now * 8) ∷ []))))
     c.start_of.ensures.0)

@@ -6,6 +6,6 @@ use Rattle.writing.proofs.Writing.{Writing}
 use Rattle.writing.proofs.write_keys.Given as goal
 
 abbrev pub invariant-loop-k : goal.invariant-loop-k
-invariant-loop-k g l =
-    (l.elements ≡ l.k-index) × (l.bytes ≡ l.k-index * g.row.SIZE)
-    × Writing l.keys l.step g.row.SIZE l.stored l.initial.memory l.memory l.k-index
+invariant-loop-k l =
+    (l.elements ≡ l.k-index) × (l.bytes ≡ l.k-index * l.size)
+    × Writing l.keys l.step l.size l.stored l.initial.memory l.memory l.k-index

@@ -14,8 +14,8 @@ two-left n t a b c d =
     eqb-true n 2
     (sym (λ i. ne_eqb n 8 a i || (ne_eqb n 1 b i || (ne_eqb n 16 c i || (ne_eqb n 4 d i || eqb n 2)))) ∙ t)
 
-pub write_keys-requires-in_default-clause-each : goal.write_keys-requires-in_default-clause-each
-write_keys-requires-in_default-clause-each c =
+pub write_sized-requires-in_default-clause-each : goal.write_sized-requires-in_default-clause-each
+write_sized-requires-in_default-clause-each c =
     let a = c.args in
     subst (λ (n : ℕ). Each (λ k. Placed a.step n (length a.memory.now) (length a.stored.now) k) a.keys.now)
     (two-left a.size c.requires.size_value.0 (λ e. omega arith) (λ e. omega arith) (λ e. omega arith) (λ e. omega arith))
@@ -24,7 +24,7 @@ write_keys-requires-in_default-clause-each c =
 pub returns-in_default : goal.returns-in_default
 returns-in_default c =
     let a = c.args in
-    let r = c.write_keys-in_default.ensures in
+    let r = c.write_sized-in_default.ensures in
     let e : a.size ≡ 2 =
     two-left a.size c.requires.size_value.0 (λ e. omega arith) (λ e. omega arith) (λ e. omega arith) (λ e. omega arith) in
     record {

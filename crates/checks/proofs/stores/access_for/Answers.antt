@@ -4,7 +4,7 @@ use mathlib.Core.Path.{◌≡◌, sym, ap, ap₂, ◌∙◌}
 use Rattle.encoding.specs.Encoding.{class_for, feature_of, refused}
 use Rattle.encoding.specs.declared.Store.{Store}
 use Rattle.encoding.specs.declared.Store.TheVariants as S
-use Rattle.elements.specs.Machine.{lent}
+use Rattle.elements.specs.Machine.{lent_with}
 use Rattle.checks.specs.Checking.{access_for}
 use Rattle.checks.specs.declared.Access.TheVariants.{Vector, Strided}
 use Rattle.elements.specs.Accesses.{strided_of}
@@ -39,13 +39,14 @@ quadword_access-requires c =
 pub returns-in-Scatter : goal.returns-in-Scatter
 returns-in-Scatter c =
     let g = c.args in
-    ap Vector c.scatter_access.ensures
-    ∙ sym (ap (access_for (lent g.machine)) c.in-Scatter.is)
+    λ z. ap Vector c.scatter_access.ensures
+    ∙ sym (ap (access_for (lent_with g.machine z)) c.in-Scatter.is)
 
 pub returns-in-Strided : goal.returns-in-Strided
 returns-in-Strided c =
     let g = c.args in
-    let m = lent g.machine in
+    λ z.
+    let m = lent_with g.machine z in
     let f = c.in-Strided.f in
     ap Strided
     (c.strided_access.ensures ∙ ap₂ (strided_of (class_for (S.Strided f)) f) c.start_of-start.ensures c.range_for-range.ensures)
@@ -54,5 +55,5 @@ returns-in-Strided c =
 pub returns-in-Quadword : goal.returns-in-Quadword
 returns-in-Quadword c =
     let g = c.args in
-    ap Vector c.quadword_access.ensures
-    ∙ sym (ap (access_for (lent g.machine)) c.in-Quadword.is)
+    λ z. ap Vector c.quadword_access.ensures
+    ∙ sym (ap (access_for (lent_with g.machine z)) c.in-Quadword.is)

@@ -1,29 +1,30 @@
 -- `check_store`: verdicts 4 to 6 in their order, or the store's access. Assumes nothing.
 use mathlib.Core.Path.{sym, ap, ◌∙◌, subst}
-use Rattle.endian.proofs.LittleEndian.{bytes-at}
-use Rattle.elements.specs.Machine.{Machine, lent}
+use mathlib.Core.List.{List, []}
+use Prim.Native.Nat.{ℕ}
+use Rattle.elements.specs.Machine.{Machine, lent_with}
 use Rattle.checks.specs.Checking.{AccessSound, elements_in}
 use Rattle.checks.specs.declared.Access.{Access}
 use Rattle.checks.proofs.Checking.{access-to, access-sound, legal-streams, for-off, for-illegal, for-stack, for-access}
 use Rattle.checks.proofs.stores.check_store.Goals as goal
 use Rattle.checks.proofs.stores.check_store.Goals.{Start}
 
--- the machine lent
-abbrev m : Start → Machine
-m a = lent a.args.machine
+-- the machine lent, with any Z buffer
+abbrev m : Start → List ℕ → Machine
+m a z = lent_with a.args.machine z
 
 pub returns-then-is_off : goal.returns-then-is_off
 returns-then-is_off c =
     let o = c.is_off in
-    λ s. for-off c.args.flags (m (goal.at.returns-then-is_off c).Start) c.args.store _ c.feature_for-feature.ensures o.result o.ensures
+    λ z s b. for-off c.args.flags (m (goal.at.returns-then-is_off c).Start z) c.args.store _ c.feature_for-feature.ensures o.result o.ensures
     c.if-is_off.true
 
 pub returns-then-is_illegal : goal.returns-then-is_illegal
 returns-then-is_illegal c =
     let o = c.is_off in
     let i = c.is_illegal in
-    λ s.
-    for-illegal c.args.flags (m (goal.at.returns-then-is_illegal c).Start) c.args.store _ c.feature_for-feature.ensures o.result o.ensures
+    λ z s b.
+    for-illegal c.args.flags (m (goal.at.returns-then-is_illegal c).Start z) c.args.store _ c.feature_for-feature.ensures o.result o.ensures
     c.if-is_off.false i.result
     i.ensures c.if-is_illegal.true
 
@@ -38,8 +39,8 @@ pub is_stack_for-requires : goal.is_stack_for-requires
 is_stack_for-requires c =
     let p = c.requires.le_vb in
     record {
-      access_sound = subst (λ (y : Access). AccessSound y c.args.machine.vb) (sym c.access_for-access.ensures)
-          (access-sound (m (goal.at.is_stack_for-requires c).Start) p.0 p.1 p.2 c.args.store c.requires.store_value);
+      access_sound = subst (λ (y : Access). AccessSound y c.args.machine.vb) (sym (c.access_for-access.ensures []))
+          (access-sound (m (goal.at.is_stack_for-requires c).Start []) p.0 p.1 p.2 c.args.store c.requires.store_value);
       vb_value = (p.2, p.3);
     }
 
@@ -49,14 +50,13 @@ returns-then-is_stack_for c =
     let o = c.is_off in
     let i = c.is_illegal in
     let s = c.is_stack_for in
-    λ q.
-    let b = bytes-at g.machine.z.now g.machine.bytes in
-    let t = access-to (m (goal.at.returns-then-is_stack_for c).Start) q b g.store c.requires.store_value in
-    for-stack g.flags (m (goal.at.returns-then-is_stack_for c).Start) g.store _ c.feature_for-feature.ensures o.result o.ensures
+    λ z q b.
+    let t = access-to (m (goal.at.returns-then-is_stack_for c).Start z) q b g.store c.requires.store_value in
+    for-stack g.flags (m (goal.at.returns-then-is_stack_for c).Start z) g.store _ c.feature_for-feature.ensures o.result o.ensures
     c.if-is_off.false
     i.result i.ensures c.if-is_illegal.false _ _ s.result
-    s.ensures c.is_on_stack.ensures
-    (t.listed ∙ ap (λ (y : Access). elements_in y g.machine.vb g.machine.z.now g.machine.p.now) (sym c.access_for-access.ensures)) c.if-is_stack_for.true
+    (s.ensures z) c.is_on_stack.ensures
+    (t.listed ∙ ap (λ (y : Access). elements_in y g.machine.vb z g.machine.p.now) (sym (c.access_for-access.ensures z))) c.if-is_stack_for.true
 
 pub returns : goal.returns
 returns c =
@@ -64,12 +64,11 @@ returns c =
     let o = c.is_off in
     let i = c.is_illegal in
     let s = c.is_stack_for in
-    λ q.
-    let b = bytes-at g.machine.z.now g.machine.bytes in
-    let t = access-to (m (goal.at.returns c).Start) q b g.store c.requires.store_value in
-    for-access g.flags (m (goal.at.returns c).Start) g.store _ c.feature_for-feature.ensures o.result o.ensures
+    λ z q b.
+    let t = access-to (m (goal.at.returns c).Start z) q b g.store c.requires.store_value in
+    for-access g.flags (m (goal.at.returns c).Start z) g.store _ c.feature_for-feature.ensures o.result o.ensures
     c.if-is_off.false
     i.result i.ensures c.if-is_illegal.false _ _ s.result
-    s.ensures c.is_on_stack.ensures
-    (t.listed ∙ ap (λ (y : Access). elements_in y g.machine.vb g.machine.z.now g.machine.p.now) (sym c.access_for-access.ensures)) _
-    c.access_for-access.ensures c.if-is_stack_for.false
+    (s.ensures z) c.is_on_stack.ensures
+    (t.listed ∙ ap (λ (y : Access). elements_in y g.machine.vb z g.machine.p.now) (sym (c.access_for-access.ensures z))) _
+    (c.access_for-access.ensures z) c.if-is_stack_for.false

@@ -40,15 +40,17 @@ returns-in-Vector c =
     let g = c.args in
     let v = c.in-Vector in
     let m = g.machine in
-    c.stack_vector.ensures (register m.vb m.z.now v.v.offsets) (register m.vb m.z.now v.v.stored)
+    λ z.
+    c.stack_vector.ensures (register m.vb z v.v.offsets) (register m.vb z v.v.stored)
     ∙ ap (λ (q : List ℕ). stack g.flags m.sp g.on_stack
-    (vector_elements v.v (register m.vb m.z.now v.v.offsets) q (register m.vb m.z.now v.v.stored)))
+    (vector_elements v.v (register m.vb z v.v.offsets) q (register m.vb z v.v.stored)))
     c.register_of-governing.ensures
-    ∙ ap (λ (k : Access). stack g.flags m.sp g.on_stack (elements_in k m.vb m.z.now m.p.now)) (sym v.is)
+    ∙ ap (λ (k : Access). stack g.flags m.sp g.on_stack (elements_in k m.vb z m.p.now)) (sym v.is)
 
 pub returns-in-Strided : goal.returns-in-Strided
 returns-in-Strided c =
     let g = c.args in
     let m = g.machine in
-    c.stack_strided.ensures m.z.now ∙ ap (λ (k : Access). stack g.flags m.sp g.on_stack (elements_in k m.vb m.z.now m.p.now))
+    λ z.
+    c.stack_strided.ensures z ∙ ap (λ (k : Access). stack g.flags m.sp g.on_stack (elements_in k m.vb z m.p.now))
     (sym c.in-Strided.is)
