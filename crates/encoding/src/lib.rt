@@ -172,8 +172,8 @@ fn quadword(row: Row, word: u32) -> QuadwordFields
     }
 }
 
-// The store that a word is; None, verdict 4, where it is of no class. No flag is looked at. Inlined: a called function puts its answer, nine
-// bytes, into memory byte by byte, and the caller's load of two of them waits.
+// The store that a word is; None, verdict 4, where it is of no class. No flag is looked at. Inlined: a called function puts its answer,
+// nine bytes, into memory byte by byte, and the caller's load of two of them waits.
 #[inline(always)]
 pub fn decode(word: u32) -> Option<Store>
     ensures { result ≡ decode_of word }

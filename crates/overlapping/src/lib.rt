@@ -1,4 +1,4 @@
-// Elements that share a byte: the lowest key that shares one with a lower key.
+// Elements that share a byte: whether two stretches do, and the lowest key that shares one with a lower key.
 #![tactic(auto)]
 
 ghost use Rattle.std.specs.Prelude.{◌≡◌, not, ◌&&◌, if◌then◌else◌};

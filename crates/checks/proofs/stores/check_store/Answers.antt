@@ -16,7 +16,8 @@ m a z = lent_with a.args.machine z
 pub returns-then-is_off : goal.returns-then-is_off
 returns-then-is_off c =
     let o = c.is_off in
-    λ z s b. for-off c.args.flags (m (goal.at.returns-then-is_off c).Start z) c.args.store _ c.feature_for-feature.ensures o.result o.ensures
+    λ z s b.
+    for-off c.args.flags (m (goal.at.returns-then-is_off c).Start z) c.args.store _ c.feature_for-feature.ensures o.result o.ensures
     c.if-is_off.true
 
 pub returns-then-is_illegal : goal.returns-then-is_illegal
@@ -56,7 +57,8 @@ returns-then-is_stack_for c =
     c.if-is_off.false
     i.result i.ensures c.if-is_illegal.false _ _ s.result
     (s.ensures z) c.is_on_stack.ensures
-    (t.listed ∙ ap (λ (y : Access). elements_in y g.machine.vb z g.machine.p.now) (sym (c.access_for-access.ensures z))) c.if-is_stack_for.true
+    (t.listed ∙ ap (λ (y : Access). elements_in y g.machine.vb z g.machine.p.now) (sym (c.access_for-access.ensures z)))
+    c.if-is_stack_for.true
 
 pub returns : goal.returns
 returns c =
